@@ -1,0 +1,4 @@
+mod Allowed
+mod Kept
+pub mod PayloadLength
+mod Zeros

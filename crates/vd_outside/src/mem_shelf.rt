@@ -1,0 +1,110 @@
+// Files in memory, with reads that fail when they are asked to.
+ghost use Rattle.std.specs.Prelude.{◌≡◌, ◌≢◌, ◌⊎◌, ◌↔◌, ℕ, ◌<◌, ◌≤◌, ◌++◌, List, length, take, drop, min, None, Some, Contains, IfSome, IfOk, IsErr, OnErr, OnOk};
+ghost use Rattle.std.specs.String.{string_bytes};
+ghost use Rattle.vd_outside.specs.Count.{Rose, raised};
+ghost use Rattle.vd_outside.specs.Shelf.{Fills, IsMissing, told};
+
+use crate::shelf::{Failed, Shelf};
+use std::alloc::{AllocError, Global};
+use std::collections::BTreeMap;
+
+/// Files in memory. It tells what it holds, and fails only at the reads that it was made to fail at and
+/// at names that it doesn't hold.
+#[derive(Drop)]
+pub struct MemShelf {
+    files: BTreeMap<String, Vec<u8>>,
+    failing: Vec<u64>,
+    reads: u64,
+    failures: u64,
+    misses: u64,
+}
+
+impl MemShelf {
+    ghost use Rattle.vd_outside.specs.Memory.{failing_reads, faults_at, file_of, next_read};
+
+    /// A shelf that holds nothing. The reads with the numbers `failing`, from 0, will fail.
+    pub fn new(alloc: Global, failing: Vec<u64>) -> Result<MemShelf, AllocError>
+        ensures empty { IfOk result (λ shelf. (name : List ℕ) → file_of shelf name ≡ None) }
+        ensures failing { IfOk result (λ shelf. failing_reads shelf ≡ failing.items) }
+        ensures unread { IfOk result (λ shelf. next_read shelf ≡ 0) }
+        ensures no_fault { IfOk result (λ shelf. (name : List ℕ) → faults_at shelf name ≡ 0) }
+    {
+        Ok(MemShelf {
+            files: BTreeMap::new(alloc),
+            failing,
+            reads: 0,
+            failures: 0,
+            misses: 0,
+        })
+    }
+
+    /// Holds these bytes under this name, in place of what was there.
+    pub fn put(&mut self, alloc: Global, name: &str, bytes: &[u8]) -> Result<(), AllocError>
+        ensures held { OnOk result (file_of self.new name.now ≡ Some bytes.now) }
+        ensures others { OnOk result ((other : List ℕ) → other ≢ name.now → file_of self.new other ≡ file_of self.old other) }
+        ensures err { OnErr result ((other : List ℕ) → file_of self.new other ≡ file_of self.old other) }
+        ensures failing { failing_reads self.new ≡ failing_reads self.old }
+        ensures unread { next_read self.new ≡ next_read self.old }
+    {
+        let key = name.to_string(alloc)?;
+        let file = bytes.to_vec(alloc)?;
+        self.files.insert(key, file)?;
+        Ok(())
+    }
+}
+
+impl Shelf for MemShelf {
+    ghost use Rattle.vd_outside.specs.Memory.{failing_reads, faults_at, file_of, next_read};
+
+    ghost content = { λ shelf. Some (file_of shelf) };
+
+    ghost faults = { faults_at };
+
+    fn read_at(&mut self, name: &str, at: u64, buf: &mut [u8]) -> Result<usize, Failed>
+        ensures kept { file_of self.new ≡ file_of self.old }
+        ensures count { IfOk result (λ n. n ≤ length buf.old) }
+        ensures bytes { IfOk result (λ n. IfSome (file_of self.old name.now) (λ file. Fills file at n buf.old buf.new)) }
+        ensures missing { file_of self.old name.now ≡ None → IsErr result }
+        ensures cause { OnErr result (Rose (faults_at self.old name.now) (faults_at self.new name.now)) }
+        ensures untouched { OnErr result (buf.new ≡ buf.old) }
+        ensures never_lower { (other : List ℕ) → faults_at self.old other ≤ faults_at self.new other }
+
+        // It fails at the reads that it was made to fail at, and at names that it doesn't hold.
+        ensures only { IsErr result ↔ (Contains (failing_reads self.old) (next_read self.old) ⊎ (file_of self.old name.now ≡ None)) }
+        ensures failing { failing_reads self.new ≡ failing_reads self.old }
+        ensures numbered { next_read self.new ≡ raised (next_read self.old) }
+    {
+        let number = self.reads;
+        self.reads = number.saturating_add(1);
+        if self.failing.contains(&number) {
+            self.failures = self.failures.saturating_add(1);
+            self.misses = self.misses.saturating_add(1);
+            return Err(Failed);
+        }
+        let Some(file) = self.files.get(name) else {
+            self.misses = self.misses.saturating_add(1);
+            return Err(Failed);
+        };
+        Ok(fill(buf, from_place(file, at)))
+    }
+}
+
+// The bytes from a place on; none past the end.
+fn from_place(file: &[u8], at: u64) -> &[u8]
+    ensures { result.now ≡ drop at file.now }
+{
+    match usize::try_from(at) {
+        Ok(at) if at < file.len() => &file[at..],
+        _ => &[],
+    }
+}
+
+// Copies as many bytes as there are and as have room into the front of the buffer.
+fn fill(buf: &mut [u8], from: &[u8]) -> usize
+    ensures count { result ≡ min (length buf.old) (length from.now) }
+    ensures filled { buf.new ≡ take result from.now ++ drop result buf.old }
+{
+    let n = buf.len().min(from.len());
+    buf[..n].copy_from_slice(&from[..n]);
+    n
+}

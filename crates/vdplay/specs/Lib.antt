@@ -1,0 +1,4 @@
+pub mod CommandLine
+pub mod FirstForm
+pub mod Exit
+pub mod Run

@@ -1,0 +1,6 @@
+use Rattle.std.proofs.Common.{◌≡◌, ◌*◌, take}
+use Rattle.bits_io.specs.ByteOrder.{interleaved}
+use Rattle.bits_io.proofs.pairs.interleave.Given as goal
+
+abbrev pub invariant-loop-i : goal.invariant-loop-i
+invariant-loop-i l = take (2 * l.i) l.into ≡ interleaved (take l.i l.first) (take l.i l.second)

@@ -1,0 +1,4 @@
+pub mod ChromaFormat
+pub mod Lending
+pub mod Picture
+pub mod SampleArray

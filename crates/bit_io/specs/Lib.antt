@@ -1,1 +1,9 @@
+pub mod Bits
+pub mod Codewords
+pub mod Escaped
+pub mod Numbers
 pub mod Payload
+pub mod Places
+pub mod Reads
+pub mod Trailing
+pub mod Written

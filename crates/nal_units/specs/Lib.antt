@@ -1,0 +1,4 @@
+pub mod Units
+pub mod Settled
+pub mod Finder
+pub mod ByteStream

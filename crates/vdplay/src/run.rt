@@ -48,10 +48,16 @@ pub fn run_plain<S: Shelf, K: Sink>(
         Rose (S.faults shelf.old name) (S.faults shelf.new name) }
     ensures write_fault { result ≡ Exit.WriteFault → Rose (K.faults sink.old) (K.faults sink.new) }
 
-    // A line of the grammar gets one of five exits; so without a counted fault one of three.
-    ensures complete { (name : List ℕ) → IsDecode (texts words.now) name →
+    // Without a counted fault a line of the grammar is done, or finds a file that isn't built, or wants
+    // memory; and a file of the form is done or wants memory.
+    ensures exits { (name : List ℕ) → IsDecode (texts words.now) name →
         (result ≡ Exit.Done) ⊎ (result ≡ Exit.NotBuilt 0) ⊎ (result ≡ Exit.OutOfMemory)
         ⊎ (result ≡ Exit.ReadFault) ⊎ (result ≡ Exit.WriteFault) }
+    ensures complete { (name : List ℕ) → IsDecode (texts words.now) name →
+        ¬ Rose (S.faults shelf.old name) (S.faults shelf.new name) → ¬ Rose (K.faults sink.old) (K.faults sink.new) →
+        (result ≡ Exit.Done) ⊎ (result ≡ Exit.NotBuilt 0) ⊎ (result ≡ Exit.OutOfMemory) }
+    ensures accepted { (file samples : List ℕ) → IsInput (texts words.now) (S.content shelf.old) file → IsFirstForm file samples →
+        (result ≡ Exit.Done) ⊎ (result ≡ Exit.OutOfMemory) ⊎ (result ≡ Exit.ReadFault) ⊎ (result ≡ Exit.WriteFault) }
 {
     let Some(name) = decoded_file(words) else {
         return Exit::Usage;

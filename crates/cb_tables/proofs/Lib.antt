@@ -1,0 +1,9 @@
+pub mod Computed
+pub mod Entries
+pub mod PatternLemmas
+pub mod Rows
+pub mod RunLemmas
+pub mod ScaleLemmas
+pub mod TokenLemmas
+pub mod Windows
+pub mod ZerosLemmas

@@ -1,0 +1,17 @@
+pub mod ChromaQp
+pub mod ClippingBounds
+pub mod CodedBlockPattern
+pub mod Codes
+pub mod CoeffToken
+pub mod CoeffTokenNc0To1
+pub mod CoeffTokenNc2To3
+pub mod CoeffTokenNc4To7
+pub mod CoeffTokenChromaDc
+pub mod FilterThresholds
+pub mod LevelScale
+pub mod RunBefore
+pub mod RunBeforeRows
+pub mod Slots
+pub mod TotalZeros
+pub mod TotalZerosChromaDc
+pub mod TotalZerosRows

@@ -1,0 +1,10 @@
+pub mod Names
+pub mod GivenNames
+pub mod Filtered
+pub mod Found
+pub mod SoundSlots
+pub mod Changed
+pub mod UsedUp
+pub mod Generations
+pub mod Inserted
+pub mod HandleLemmas

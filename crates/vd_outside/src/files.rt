@@ -1,6 +1,6 @@
 // Real files: the edge to the file system.
 ghost use Rattle.std.specs.Prelude.{◌≡◌, ℕ, ◌<◌, ◌≤◌, List, length, None, IfSome, IfOk, IsErr, OnErr};
-ghost use Rattle.vd_outside.specs.Count.{Rose};
+ghost use Rattle.vd_outside.specs.Count.{HasCause};
 ghost use Rattle.vd_outside.specs.Shelf.{Fills, IsMissing, told};
 
 use crate::shelf::{Failed, Shelf};

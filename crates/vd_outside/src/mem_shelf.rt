@@ -1,7 +1,7 @@
 // Files in memory, with reads that fail when they are asked to.
 ghost use Rattle.std.specs.Prelude.{◌≡◌, ◌≢◌, ◌⊎◌, ◌↔◌, ℕ, ◌<◌, ◌≤◌, ◌++◌, List, length, take, drop, min, None, Some, Contains, IfSome, IfOk, IsErr, OnErr, OnOk};
 ghost use Rattle.std.specs.String.{string_bytes};
-ghost use Rattle.vd_outside.specs.Count.{Rose, raised};
+ghost use Rattle.vd_outside.specs.Count.{HasCause, raised};
 ghost use Rattle.vd_outside.specs.Shelf.{Fills, IsMissing, told};
 
 use crate::shelf::{Failed, Shelf};
@@ -65,7 +65,7 @@ impl Shelf for MemShelf {
         ensures count { IfOk result (λ n. n ≤ length buf.old) }
         ensures bytes { IfOk result (λ n. IfSome (file_of self.old name.now) (λ file. Fills file at n buf.old buf.new)) }
         ensures missing { file_of self.old name.now ≡ None → IsErr result }
-        ensures cause { OnErr result (Rose (faults_at self.old name.now) (faults_at self.new name.now)) }
+        ensures cause { HasCause (IsErr result) (faults_at self.old name.now) (faults_at self.new name.now) }
         ensures untouched { OnErr result (buf.new ≡ buf.old) }
         ensures never_lower { (other : List ℕ) → faults_at self.old other ≤ faults_at self.new other }
 

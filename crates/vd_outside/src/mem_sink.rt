@@ -1,7 +1,7 @@
 // Bytes written to memory, with writes that fail when they are asked to.
 ghost use Rattle.std.specs.Prelude.{◌≡◌, ◌↔◌, ℕ, ◌<◌, ◌≤◌, ◌++◌, List, [], length, Some, Contains, IfOk, IsErrOf};
 ghost use Rattle.std.specs.Io.KnownBytes.{WriteAppends};
-ghost use Rattle.vd_outside.specs.Count.{Rose, raised};
+ghost use Rattle.vd_outside.specs.Count.{HasCause, raised};
 
 use crate::sink::{Sink, SinkFault};
 use std::alloc::{AllocError, Global};
@@ -53,7 +53,7 @@ impl Sink for MemSink {
         ensures count { IfOk result (λ n. n ≤ length bytes.now) }
         ensures progress { IfOk result (λ n. 0 < length bytes.now → 0 < n) }
         ensures appended { WriteAppends (Some (written_to self.old)) (Some (written_to self.new)) result bytes.now }
-        ensures cause { IsErrOf result SinkFault.Failed → Rose (failed_writes self.old) (failed_writes self.new) }
+        ensures cause { HasCause (IsErrOf result SinkFault.Failed) (failed_writes self.old) (failed_writes self.new) }
         ensures memory { IsErrOf result SinkFault.OutOfMemory → failed_writes self.new ≡ failed_writes self.old }
         ensures never_lower { failed_writes self.old ≤ failed_writes self.new }
 

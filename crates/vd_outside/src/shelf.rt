@@ -1,7 +1,7 @@
 // Where files are read from.
 ghost use Rattle.std.specs.Prelude.{◌≡◌, ℕ, ◌<◌, ◌≤◌, List, length, None, Some, IfSome, IfOk, IsErr, OnErr};
 ghost use Rattle.std.specs.declared.option.Option.{Option};
-ghost use Rattle.vd_outside.specs.Count.{Rose};
+ghost use Rattle.vd_outside.specs.Count.{HasCause};
 ghost use Rattle.vd_outside.specs.Shelf.{Files, Fills, IsMissing, told};
 
 /// A read failed. Which fault it was is not told.
@@ -23,7 +23,7 @@ pub trait Shelf {
         ensures count { IfOk result (λ n. n ≤ length buf.old) }
         ensures bytes { IfOk result (λ n. IfSome (told (content self.old) name.now) (λ file. Fills file at n buf.old buf.new)) }
         ensures missing { IsMissing (content self.old) name.now → IsErr result }
-        ensures cause { OnErr result (Rose (faults self.old name.now) (faults self.new name.now)) }
+        ensures cause { HasCause (IsErr result) (faults self.old name.now) (faults self.new name.now) }
         ensures untouched { OnErr result (buf.new ≡ buf.old) }
         ensures never_lower { (other : List ℕ) → faults self.old other ≤ faults self.new other };
 }

@@ -2,7 +2,7 @@
 ghost use Rattle.std.specs.Prelude.{◌≡◌, ℕ, ◌<◌, ◌≤◌, List, length, IfOk, IsErrOf};
 ghost use Rattle.std.specs.declared.option.Option.{Option};
 ghost use Rattle.std.specs.Io.KnownBytes.{WriteAppends};
-ghost use Rattle.vd_outside.specs.Count.{Rose};
+ghost use Rattle.vd_outside.specs.Count.{HasCause};
 
 /// Why a write was not made.
 #[derive(Clone, Copy, Debug, PartialEq, Eq)]
@@ -27,7 +27,7 @@ pub trait Sink {
         ensures count { IfOk result (λ n. n ≤ length bytes.now) }
         ensures progress { IfOk result (λ n. 0 < length bytes.now → 0 < n) }
         ensures appended { WriteAppends (written self.old) (written self.new) result bytes.now }
-        ensures cause { IsErrOf result SinkFault.Failed → Rose (faults self.old) (faults self.new) }
+        ensures cause { HasCause (IsErrOf result SinkFault.Failed) (faults self.old) (faults self.new) }
         ensures memory { IsErrOf result SinkFault.OutOfMemory → faults self.new ≡ faults self.old }
         ensures never_lower { faults self.old ≤ faults self.new };
 }

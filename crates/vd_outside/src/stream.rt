@@ -1,7 +1,7 @@
 // A real stream: the edge to standard output.
 ghost use Rattle.std.specs.Prelude.{◌≡◌, ℕ, ◌<◌, ◌≤◌, length, None, IfOk, IsErrOf};
 ghost use Rattle.std.specs.Io.KnownBytes.{WriteAppends};
-ghost use Rattle.vd_outside.specs.Count.{Rose};
+ghost use Rattle.vd_outside.specs.Count.{HasCause};
 
 use crate::sink::{Sink, SinkFault};
 use std::io;

@@ -1,6 +1,6 @@
 // Reads of whole fronts of files.
-ghost use Rattle.std.specs.Prelude.{◌≡◌, ◌≤◌, ℕ, min, length, take, drop, IfOk, IfSome, OnErr, OnOk};
-ghost use Rattle.vd_outside.specs.Count.{Rose};
+ghost use Rattle.std.specs.Prelude.{◌≡◌, ◌≤◌, ℕ, min, length, take, drop, IfOk, IfSome, IsErr};
+ghost use Rattle.vd_outside.specs.Count.{HasCause};
 ghost use Rattle.vd_outside.specs.Shelf.{told};
 
 use vd_outside::{Failed, Shelf};
@@ -12,7 +12,7 @@ pub fn read_front<S: Shelf>(shelf: &mut S, name: &str, buf: &mut [u8]) -> Result
     ensures front { IfOk result (λ n. IfSome (told (S.content shelf.old) name.now) (λ file.
         (n ≡ min (length buf.old) (length file)) × (take n buf.new ≡ take n file))) }
     ensures kept { S.content shelf.new ≡ S.content shelf.old }
-    ensures cause { OnErr result (Rose (S.faults shelf.old name.now) (S.faults shelf.new name.now)) }
+    ensures cause { HasCause (IsErr result) (S.faults shelf.old name.now) (S.faults shelf.new name.now) }
     ensures never_lower { S.faults shelf.old name.now ≤ S.faults shelf.new name.now }
 {
     let mut filled = 0;

@@ -1,7 +1,7 @@
 // The commands that wait for nobody.
 ghost use Rattle.std.specs.Prelude.{◌≡◌, ◌⊎◌, ◌↔◌, ℕ, List, IfOk, IfErr, IfSome, IsErrOf};
 ghost use Rattle.std.specs.Io.KnownBytes.{Appends, Keeps};
-ghost use Rattle.vd_outside.specs.Count.{Rose};
+ghost use Rattle.vd_outside.specs.Count.{HasCause, Rose};
 ghost use Rattle.vd_outside.specs.Shelf.{told};
 ghost use Rattle.vdplay.specs.CommandLine.{IsDecode, IsNoLine, texts};
 ghost use Rattle.vdplay.specs.FirstForm.{IsFirstForm, IsNotBuilt};
@@ -44,9 +44,9 @@ pub fn run_plain<S: Shelf, K: Sink>(
         (result ≡ Exit.NotBuilt 0) ⊎ (result ≡ Exit.ReadFault) ⊎ (result ≡ Exit.OutOfMemory) }
 
     // A fault is blamed on the outside only where it was counted there in this call.
-    ensures read_fault { (name : List ℕ) → IsDecode (texts words.now) name → result ≡ Exit.ReadFault →
-        Rose (S.faults shelf.old name) (S.faults shelf.new name) }
-    ensures write_fault { result ≡ Exit.WriteFault → Rose (K.faults sink.old) (K.faults sink.new) }
+    ensures read_fault { (name : List ℕ) → IsDecode (texts words.now) name →
+        HasCause (result ≡ Exit.ReadFault) (S.faults shelf.old name) (S.faults shelf.new name) }
+    ensures write_fault { HasCause (result ≡ Exit.WriteFault) (K.faults sink.old) (K.faults sink.new) }
 
     // Without a counted fault a line of the grammar is done, or finds a file that isn't built, or wants
     // memory; and a file of the form is done or wants memory.
@@ -72,7 +72,7 @@ pub fn run_plain<S: Shelf, K: Sink>(
 fn load<S: Shelf>(alloc: Global, shelf: &mut S, name: &str) -> Result<Vec<u8>, Exit>
     ensures built { IfOk result (λ samples. IfSome (told (S.content shelf.old) name.now) (λ file. IsFirstForm file samples.items)) }
     ensures not_built { IsErrOf result (Exit.NotBuilt 0) → IfSome (told (S.content shelf.old) name.now) IsNotBuilt }
-    ensures cause { IsErrOf result Exit.ReadFault → Rose (S.faults shelf.old name.now) (S.faults shelf.new name.now) }
+    ensures cause { HasCause (IsErrOf result Exit.ReadFault) (S.faults shelf.old name.now) (S.faults shelf.new name.now) }
     ensures exits { IfErr result (λ exit. (exit ≡ Exit.NotBuilt 0) ⊎ (exit ≡ Exit.ReadFault) ⊎ (exit ≡ Exit.OutOfMemory)) }
 {
     let mut front = [0; first_form::LONGEST + 1];
@@ -85,7 +85,7 @@ fn load<S: Shelf>(alloc: Global, shelf: &mut S, name: &str) -> Result<Vec<u8>, E
 fn store<K: Sink>(sink: &mut K, samples: &[u8]) -> Exit
     ensures done { result ≡ Exit.Done → Appends (K.written sink.old) (K.written sink.new) samples.now }
     ensures front { AppendsFront (K.written sink.old) (K.written sink.new) samples.now }
-    ensures cause { result ≡ Exit.WriteFault → Rose (K.faults sink.old) (K.faults sink.new) }
+    ensures cause { HasCause (result ≡ Exit.WriteFault) (K.faults sink.old) (K.faults sink.new) }
     ensures exits { (result ≡ Exit.Done) ⊎ (result ≡ Exit.WriteFault) ⊎ (result ≡ Exit.OutOfMemory) }
 {
     match write_all(sink, samples) {

@@ -1,5 +1,5 @@
 // Emulation prevention: what keeps a start code out of a NAL unit. H.264, 7.3.1 and 7.4.1.
-ghost use Rattle.std.specs.Prelude.{◌≡◌, ◌⊎◌, ℕ, ◌+◌, ◌<◌, ◌≤◌, ◌++◌, false, true, length, min, max, slice_range, slice_index, IfOk, OnOk, IsErrOf, IsTrue, IfErr};
+ghost use Rattle.std.specs.Prelude.{◌≡◌, ◌⊎◌, ℕ, ◌+◌, ◌<◌, ◌≤◌, true, length, max, slice_index, IfOk, OnOk, IsErrOf};
 ghost use Rattle.bit_io.specs.Payload.{IsAllowedBefore, IsFirstForbidden, follows_zeros, is_prevention, payload};
 
 use std::alloc::{AllocError, Global};

@@ -1,5 +1,5 @@
 // What a table keeps for each index of a name.
-ghost use Rattle.std.specs.Prelude.{◌≡◌, ◌≢◌, ◌⊎◌, ℕ, ◌+◌, ◌<◌, ◌≤◌, ◌++◌, ◌∷◌, [], true, length, IfSome, IfNone, OnSome, OnOk, OnErr, sum_by};
+ghost use Rattle.std.specs.Prelude.{◌≡◌, ◌⊎◌, ℕ, ◌+◌, ◌<◌, ◌≤◌, ◌++◌, ◌∷◌, [], true, length, IfSome, IfNone, OnSome, OnOk, OnErr, sum_by};
 ghost use Rattle.handle_table.specs.Slots.{IsUsedUp, is_free, key_of, slot_at, used_of};
 ghost use Rattle.handle_table.specs.declared.slot.Slot.TheVariants.{Vacant};
 

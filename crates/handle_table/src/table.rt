@@ -1,10 +1,10 @@
 // The table.
-ghost use Rattle.std.specs.Prelude.{◌≡◌, ◌≢◌, ◌⊎◌, ℕ, ◌+◌, ◌*◌, ◌^◌, ◌≤◌, List, [], ◌∷◌, ◌++◌, length, Some, None, Contains, IfSome, IfOk, IfErr, OnErr, option_copied};
+ghost use Rattle.std.specs.Prelude.{◌≡◌, ◌⊎◌, ℕ, ◌+◌, ◌*◌, ◌^◌, ◌≤◌, List, [], ◌∷◌, ◌++◌, length, Some, None, Contains, IfSome, IfOk, IfErr, OnErr, option_copied};
 ghost use Rattle.std.specs.Option.{option_copied_mut};
 ghost use Rattle.std.specs.Borrow.{sem};
 ghost use Rattle.handle_table.specs.Fault.{IfFull, IsFull, returned};
 ghost use Rattle.handle_table.specs.Given.{HasGiven};
-ghost use Rattle.handle_table.specs.Handles.{Adds, Handle, Updates, lookup};
+ghost use Rattle.handle_table.specs.Handles.{Adds, Updates, lookup};
 ghost use Rattle.handle_table.specs.Name.{IsNameOf};
 
 use crate::fault::InsertFault;

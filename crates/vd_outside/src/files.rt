@@ -1,7 +1,5 @@
 // Real files: the edge to the file system.
-ghost use Rattle.std.specs.Prelude.{◌≡◌, ℕ, ◌<◌, ◌≤◌, List, length, None, IfSome, IfOk, IsErr, OnErr};
-ghost use Rattle.vd_outside.specs.Count.{HasCause};
-ghost use Rattle.vd_outside.specs.Shelf.{Fills, IsMissing, told};
+ghost use Rattle.std.specs.Prelude.{◌≡◌, ◌<◌, ◌≤◌, length, None, IfOk, OnErr};
 
 use crate::shelf::{Failed, Shelf};
 use std::io::{ErrorKind, Read, Seek, SeekFrom};

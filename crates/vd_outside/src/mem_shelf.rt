@@ -1,8 +1,7 @@
 // Files in memory, with reads that fail when they are asked to.
 ghost use Rattle.std.specs.Prelude.{◌≡◌, ◌≢◌, ◌⊎◌, ◌↔◌, ℕ, ◌<◌, ◌≤◌, ◌++◌, List, length, take, drop, min, None, Some, Contains, IfSome, IfOk, IsErr, OnErr, OnOk};
-ghost use Rattle.std.specs.String.{string_bytes};
 ghost use Rattle.vd_outside.specs.Count.{HasCause, raised};
-ghost use Rattle.vd_outside.specs.Shelf.{Fills, IsMissing, told};
+ghost use Rattle.vd_outside.specs.Shelf.{Fills};
 
 use crate::shelf::{Failed, Shelf};
 use std::alloc::{AllocError, Global};

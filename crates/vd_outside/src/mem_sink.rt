@@ -1,5 +1,5 @@
 // Bytes written to memory, with writes that fail when they are asked to.
-ghost use Rattle.std.specs.Prelude.{◌≡◌, ◌↔◌, ℕ, ◌<◌, ◌≤◌, ◌++◌, List, [], length, Some, Contains, IfOk, IsErrOf};
+ghost use Rattle.std.specs.Prelude.{◌≡◌, ◌↔◌, ◌<◌, ◌≤◌, [], length, Some, Contains, IfOk, IsErrOf};
 ghost use Rattle.std.specs.Io.KnownBytes.{WriteAppends};
 ghost use Rattle.vd_outside.specs.Count.{HasCause, raised};
 

@@ -1,6 +1,5 @@
 // The words of the command line.
-ghost use Rattle.std.specs.Prelude.{◌≡◌, ℕ, List, IfSome, IfNone};
-ghost use Rattle.std.specs.String.{string_bytes};
+ghost use Rattle.std.specs.Prelude.{IfSome, IfNone};
 ghost use Rattle.vdplay.specs.CommandLine.{IsDecode, IsNoLine, texts};
 
 // The file that `decode FILE` names, or nothing where the words are no line of the grammar.

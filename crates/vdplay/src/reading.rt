@@ -1,5 +1,5 @@
 // Reads of whole fronts of files.
-ghost use Rattle.std.specs.Prelude.{◌≡◌, ◌≤◌, ℕ, min, length, take, drop, IfOk, IfSome, IsErr};
+ghost use Rattle.std.specs.Prelude.{◌≡◌, ◌≤◌, min, length, take, IfOk, IfSome, IsErr};
 ghost use Rattle.vd_outside.specs.Count.{HasCause};
 ghost use Rattle.vd_outside.specs.Shelf.{told};
 

@@ -1,5 +1,5 @@
 // Writes of all bytes.
-ghost use Rattle.std.specs.Prelude.{◌≡◌, ◌≤◌, ℕ, length, OnErr, OnOk, IsErrOf};
+ghost use Rattle.std.specs.Prelude.{◌≤◌, OnOk, IsErrOf};
 ghost use Rattle.std.specs.Io.KnownBytes.{Appends};
 ghost use Rattle.vd_outside.specs.Count.{HasCause};
 ghost use Rattle.vdplay.specs.Run.{AppendsFront};

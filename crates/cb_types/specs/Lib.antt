@@ -1,1 +1,5 @@
+pub mod AcceptedInfo
+pub mod Blocks
+pub mod Neighbours
+pub mod References
 pub mod SizeMbs

@@ -1,11 +1,11 @@
 // The size of a picture in macroblocks.
 ghost use Rattle.std.specs.Prelude.{◌≡◌, ◌^◌, ◌<◌, ◌↔◌, IsTrue};
 
-/// The most macroblocks across, and the most down, that this decoder takes: 2,048 luma samples.
-pub const MAX_SIDE_MBS: u32 = 128;
+/// The most macroblocks across, and the most down, that this decoder takes: 4,096 luma samples.
+pub const MAX_SIDE_MBS: u32 = 256;
 
 /// The most macroblocks in a picture that this decoder takes.
-pub const MAX_PICTURE_MBS: u32 = 8192;
+pub const MAX_PICTURE_MBS: u32 = 36864;
 
 /// The size of a picture in macroblocks, `width` of them across and `height` of them down.
 ///

@@ -1,4 +1,4 @@
-ghost use Rattle.std.specs.Prelude.{◌≡◌, ◌+◌, ◌-◌, ◌*◌, ◌/◌, ◌<◌, ◌≤◌, ◌^◌, ◌++◌, ◌↔◌, IsTrue, MatchOption, drop, length};
+ghost use Rattle.std.specs.Prelude.{◌≡◌, ◌+◌, ◌-◌, ◌*◌, ◌/◌, ◌%◌, ◌<◌, ◌≤◌, ◌^◌, ◌++◌, ◌↔◌, IsTrue, MatchOption, drop, length};
 ghost use Rattle.bit_io.specs.Bits.{bits_of, u};
 ghost use Rattle.bit_io.specs.Codewords.{IsSe, IsTe, IsU, IsUe, se, se_number, te, ue};
 ghost use Rattle.bit_io.specs.Numbers.{ahead, number};
@@ -132,6 +132,13 @@ impl<'a> BitReader<'a> {
         let bit = self.place.bit + n;
         let byte = self.place.byte + (bit / 8) as usize;
         byte < self.bytes.len() || (byte == self.bytes.len() && bit % 8 == 0)
+    }
+
+    /// How many bits are left up to the next whole byte, 0 to 7. What is read ends at a whole byte.
+    pub fn bits_to_byte(&self) -> u32
+        ensures { result ≡ length self.now % 8 }
+    {
+        (8 - self.place.bit) % 8
     }
 
     /// Consumes n bits, whatever they are.

@@ -1,4 +1,4 @@
-ghost use Rattle.std.specs.Prelude.{◌≡◌, ◌-◌, ◌*◌, ◌<◌, ◌≤◌, ◌^◌, false, [], ◌++◌, OnErr, OnOk, drop, length, replicate, take, vec_len};
+ghost use Rattle.std.specs.Prelude.{◌≡◌, ◌-◌, ◌*◌, ◌%◌, ◌<◌, ◌≤◌, ◌^◌, false, [], ◌++◌, OnErr, OnOk, drop, length, replicate, take, vec_len};
 ghost use Rattle.bit_io.specs.Bits.{Holds, bits_of, u};
 ghost use Rattle.bit_io.specs.Codewords.{IsSe, IsTe, IsU, IsUe, se, se_number, te, ue};
 ghost use Rattle.bit_io.specs.Trailing.{trailing_bits};
@@ -106,6 +106,13 @@ impl BitWriter {
     {
         let n = if self.free == 0 { 8 } else { self.free };
         self.put_bits(1 << (n - 1), n)
+    }
+
+    /// How many bits are free up to the next whole byte, 0 to 7.
+    pub fn bits_to_byte(&self) -> u32
+        ensures { result ≡ (8 - length self.now % 8) % 8 }
+    {
+        self.free
     }
 
     /// The bits written, with the last byte filled up by zeros.

@@ -3,3 +3,4 @@ pub mod Blocks
 pub mod Neighbours
 pub mod References
 pub mod SizeMbs
+pub mod Slices

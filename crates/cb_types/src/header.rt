@@ -1,5 +1,7 @@
 // The syntax elements of a slice header.
 
+use super::picture_info::PictureInfo;
+
 /// The first byte of a NAL unit (H.264, 7.3.1): nal_ref_idc and nal_unit_type.
 #[derive(Clone, Copy, Debug, PartialEq, Eq)]
 pub struct UnitHead {
@@ -110,4 +112,36 @@ pub struct Header {
     pub deblock_idc: u32,
     pub alpha_half: i32,
     pub beta_half: i32,
+}
+
+impl Header {
+    ghost use Rattle.std.specs.Prelude.{◌≡◌, ◌^◌, ◌<◌};
+    ghost use Rattle.cb_types.specs.Slices.{active_entries, is_idr, is_p};
+
+    /// Whether the slice is a P slice.
+    pub fn is_p(&self) -> bool
+        ensures { result ≡ is_p self.now }
+    {
+        self.slice_type % 5 == 0
+    }
+
+    /// Whether the slice is of an IDR picture.
+    pub fn is_idr(&self) -> bool
+        ensures { result ≡ is_idr self.now }
+    {
+        self.head.unit_type == 5
+    }
+
+    /// How many entries the slice's reference list has: num_ref_idx_l0_active_minus1 + 1 (H.264, 7.4.3),
+    /// by the picture info where the header doesn't spell it.
+    pub fn active_entries(&self, info: &PictureInfo) -> u32
+        requires { active_entries info.now self.now < 2 ^ 32 }
+        ensures { result ≡ active_entries info.now self.now }
+    {
+        let listed = match self.active_override {
+            Some(minus1) => minus1,
+            None => u32::from(info.num_ref_idx_l0_active_minus1),
+        };
+        listed + 1
+    }
 }

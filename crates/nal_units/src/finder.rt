@@ -78,6 +78,7 @@ impl Finder {
         ensures taken { result.0 ≤ length bytes.now }
         ensures some { 0 < length bytes.now → 0 < result.0 }
         ensures all { result.1 ≡ Found.Nothing → result.0 ≡ length bytes.now }
+        ensures empty { length bytes.now ≡ 0 → result.1 ≡ Found.Nothing }
         ensures stands { (text : List ℕ) → StandsFor self.old text → StandsFor self.new (text ++ take result.0 bytes.now) }
         ensures settles { (text : List ℕ) (settled : List (ℕ × ℕ)) → StandsFor self.old text → Settles text settled None →
             Settles (text ++ take result.0 bytes.now) (settled ++ unit_in result.1) (broken_in result.1) }

@@ -24,6 +24,10 @@ mod tests {
         assert_eq!(rt; flat.at(2, 0), 7);
         assert_eq!(rt; flat.clamped(-5, 9), 7);
 
+        let mut wide = Plane::new(rt.alloc(), 4096, 1, 7)?;
+        wide.set(4095, 0, 9);
+        assert_eq!(rt; (wide.at(4094, 0), wide.clamped(5000, 3)), (7, 9));
+
         let plane = numbered(rt.alloc())?;
         for (x, y, want) in [
             (0, 0, 0),
@@ -65,7 +69,12 @@ mod tests {
                 height: 1,
             },
         )?;
-        for (picture, luma, chroma) in [(&zeros, 256, 64), (&of_size, 512, 128)] {
+        let large = Picture::new(rt.alloc(), 128, 64)?;
+        for (picture, luma, chroma) in [
+            (&zeros, 256, 64),
+            (&of_size, 512, 128),
+            (&large, 128 * 64 * 256, 128 * 64 * 64),
+        ] {
             for (samples, count) in [
                 (picture.y.samples(), luma),
                 (picture.cb.samples(), chroma),

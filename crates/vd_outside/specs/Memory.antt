@@ -1,18 +1,18 @@
 -- What a shelf and a sink in memory hold, and which of their calls fail.
-use Rattle.std.specs.Prelude.{ℕ, List, is_some, if◌then◌else◌}
+use Rattle.std.specs.Prelude.{ℕ, ◌+◌, ◌-◌, ◌^◌, min, List}
 use Rattle.std.specs.declared.option.Option.{Option}
-use Rattle.std.specs.Option.{option_map}
+use Rattle.std.specs.Option.{option_map, option_map_or}
 use Rattle.std.specs.BTreeMap.{get_by_text}
 use Rattle.vd_outside.specs.declared.mem_shelf.MemShelf.{MemShelf}
 use Rattle.vd_outside.specs.declared.mem_sink.MemSink.{MemSink}
 
 -- the bytes of the file of that name, where it is held
 abbrev pub file_of : MemShelf → List ℕ → Option (List ℕ)
-file_of shelf name = option_map (λ file. file.items) (get_by_text shelf.files name)
+file_of shelf name = option_map (λ held. held.bytes.items) (get_by_text shelf.files name)
 
--- how many faults there were at a name: those of every name, and where it isn't held those of looking for it
+-- how many faults there were at a name: those of every name, and beside them those of looking for it while it wasn't held
 abbrev pub faults_at : MemShelf → List ℕ → ℕ
-faults_at shelf name = if is_some (file_of shelf name) then shelf.failures else shelf.misses
+faults_at shelf name = option_map_or (λ held. min (shelf.failures + held.earlier) (2 ^ 64 - 1)) (get_by_text shelf.files name) shelf.misses
 
 -- the numbers, from 0, of the reads that fail
 abbrev pub failing_reads : MemShelf → List ℕ

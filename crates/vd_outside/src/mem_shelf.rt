@@ -1,5 +1,5 @@
 // Files in memory, with reads that fail when they are asked to.
-ghost use Rattle.std.specs.Prelude.{◌≡◌, ◌≢◌, ◌⊎◌, ◌↔◌, ℕ, ◌<◌, ◌≤◌, ◌++◌, List, length, take, drop, min, None, Some, Contains, IfSome, IfOk, IsErr, OnErr, OnOk};
+ghost use Rattle.std.specs.Prelude.{◌≡◌, ◌≢◌, ◌⊎◌, ◌↔◌, ℕ, ◌+◌, ◌-◌, ◌^◌, ◌<◌, ◌≤◌, ◌++◌, List, length, take, drop, min, None, Some, Contains, IfSome, IfOk, IsErr, OnErr, OnOk, is_none, if◌then◌else◌};
 ghost use Rattle.vd_outside.specs.Count.{HasCause, raised};
 ghost use Rattle.vd_outside.specs.Shelf.{Fills};
 
@@ -7,15 +7,24 @@ use crate::shelf::{Failed, Shelf};
 use std::alloc::{AllocError, Global};
 use std::collections::BTreeMap;
 
-/// Files in memory. It tells what it holds, and fails only at the reads that it was made to fail at and
-/// at names that it doesn't hold.
+// A file, and how many faults its name had before it was held beside those of every name.
+#[derive(Drop)]
+pub struct Held {
+    bytes: Vec<u8>,
+    earlier: u64,
+}
+
+/// Files in memory. It tells what it holds, and fails only at the reads that it was made to fail at, which
+/// are faults at every name, and at names that it doesn't hold, which are faults at each of these names.
 #[derive(Drop)]
 pub struct MemShelf {
-    files: BTreeMap<String, Vec<u8>>,
+    files: BTreeMap<String, Held>,
     failing: Vec<u64>,
     reads: u64,
+    // The reads that were made to fail, and with them those of names that aren't held.
     failures: u64,
     misses: u64,
+    ghost among: { failures ≤ misses },
 }
 
 impl MemShelf {
@@ -44,11 +53,23 @@ impl MemShelf {
         ensures err { OnErr result ((other : List ℕ) → file_of self.new other ≡ file_of self.old other) }
         ensures failing { failing_reads self.new ≡ failing_reads self.old }
         ensures unread { next_read self.new ≡ next_read self.old }
+        ensures no_fault { (other : List ℕ) → faults_at self.new other ≡ faults_at self.old other }
     {
         let key = name.to_string(alloc)?;
-        let file = bytes.to_vec(alloc)?;
-        self.files.insert(key, file)?;
+        let bytes = bytes.to_vec(alloc)?;
+        let earlier = self.earlier_at(name);
+        self.files.insert(key, Held { bytes, earlier })?;
         Ok(())
+    }
+
+    // What a name has counted beside the faults of every name.
+    fn earlier_at(&self, name: &str) -> u64
+        ensures { min (self.now.failures + result) (2 ^ 64 - 1) ≡ faults_at self.now name.now }
+    {
+        match self.files.get(name) {
+            Some(held) => held.earlier,
+            None => self.misses - self.failures,
+        }
     }
 }
 
@@ -65,11 +86,18 @@ impl Shelf for MemShelf {
         ensures bytes { IfOk result (λ n. IfSome (file_of self.old name.now) (λ file. Fills file at n buf.old buf.new)) }
         ensures missing { file_of self.old name.now ≡ None → IsErr result }
         ensures cause { HasCause (IsErr result) (faults_at self.old name.now) (faults_at self.new name.now) }
+        ensures no_fault { OnOk result ((other : List ℕ) → faults_at self.new other ≡ faults_at self.old other) }
         ensures untouched { OnErr result (buf.new ≡ buf.old) }
         ensures never_lower { (other : List ℕ) → faults_at self.old other ≤ faults_at self.new other }
 
         // It fails at the reads that it was made to fail at, and at names that it doesn't hold.
         ensures only { IsErr result ↔ (Contains (failing_reads self.old) (next_read self.old) ⊎ (file_of self.old name.now ≡ None)) }
+
+        // A read that was made to fail is a fault at every name, and that of a name that isn't held at each such name alone.
+        ensures made { Contains (failing_reads self.old) (next_read self.old) →
+            (other : List ℕ) → faults_at self.new other ≡ raised (faults_at self.old other) }
+        ensures missed { ¬ Contains (failing_reads self.old) (next_read self.old) → file_of self.old name.now ≡ None →
+            (other : List ℕ) → faults_at self.new other ≡ (if is_none (file_of self.old other) then raised (faults_at self.old other) else faults_at self.old other) }
         ensures failing { failing_reads self.new ≡ failing_reads self.old }
         ensures numbered { next_read self.new ≡ raised (next_read self.old) }
     {
@@ -84,7 +112,7 @@ impl Shelf for MemShelf {
             self.misses = self.misses.saturating_add(1);
             return Err(Failed);
         };
-        Ok(fill(buf, from_place(file, at)))
+        Ok(fill(buf, from_place(&file.bytes, at)))
     }
 }
 

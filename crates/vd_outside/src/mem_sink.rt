@@ -1,5 +1,5 @@
 // Bytes written to memory, with writes that fail when they are asked to.
-ghost use Rattle.std.specs.Prelude.{◌≡◌, ◌↔◌, ◌<◌, ◌≤◌, [], length, Some, Contains, IfOk, IsErrOf};
+ghost use Rattle.std.specs.Prelude.{◌≡◌, ◌↔◌, ◌<◌, ◌≤◌, [], length, Some, Contains, IfOk, IsErrOf, OnOk};
 ghost use Rattle.std.specs.Io.KnownBytes.{WriteAppends};
 ghost use Rattle.vd_outside.specs.Count.{HasCause, raised};
 
@@ -54,6 +54,7 @@ impl Sink for MemSink {
         ensures progress { IfOk result (λ n. 0 < length bytes.now → 0 < n) }
         ensures appended { WriteAppends (Some (written_to self.old)) (Some (written_to self.new)) result bytes.now }
         ensures cause { HasCause (IsErrOf result SinkFault.Failed) (failed_writes self.old) (failed_writes self.new) }
+        ensures no_fault { OnOk result (failed_writes self.new ≡ failed_writes self.old) }
         ensures memory { IsErrOf result SinkFault.OutOfMemory → failed_writes self.new ≡ failed_writes self.old }
         ensures never_lower { failed_writes self.old ≤ failed_writes self.new }
 
@@ -61,16 +62,24 @@ impl Sink for MemSink {
         ensures only { IsErrOf result SinkFault.Failed ↔ Contains (failing_writes self.old) (next_write self.old) }
         ensures whole { IfOk result (λ n. n ≡ length bytes.now) }
         ensures failing { failing_writes self.new ≡ failing_writes self.old }
-        ensures numbered { next_write self.new ≡ raised (next_write self.old) }
+
+        // A write that fails, or takes its bytes, has its number; want of memory changes nothing.
+        ensures numbered { OnOk result (next_write self.new ≡ raised (next_write self.old)) }
+        ensures failed { IsErrOf result SinkFault.Failed →
+            (next_write self.new ≡ raised (next_write self.old)) × (failed_writes self.new ≡ raised (failed_writes self.old)) }
+        ensures unchanged { IsErrOf result SinkFault.OutOfMemory →
+            (next_write self.new ≡ next_write self.old) × (written_to self.new ≡ written_to self.old) }
     {
-        let number = self.writes;
-        self.writes = number.saturating_add(1);
-        if self.failing.contains(&number) {
+        if self.failing.contains(&self.writes) {
+            self.writes = self.writes.saturating_add(1);
             self.failures = self.failures.saturating_add(1);
             return Err(SinkFault::Failed);
         }
         match self.written.extend_from_slice(bytes) {
-            Ok(()) => Ok(bytes.len()),
+            Ok(()) => {
+                self.writes = self.writes.saturating_add(1);
+                Ok(bytes.len())
+            }
             Err(_) => Err(SinkFault::OutOfMemory),
         }
     }

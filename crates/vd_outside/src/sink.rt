@@ -1,5 +1,5 @@
 // Where bytes are written to.
-ghost use Rattle.std.specs.Prelude.{◌≡◌, ℕ, ◌<◌, ◌≤◌, List, length, IfOk, IsErrOf};
+ghost use Rattle.std.specs.Prelude.{◌≡◌, ℕ, ◌<◌, ◌≤◌, List, length, IfOk, IsErrOf, OnOk};
 ghost use Rattle.std.specs.declared.option.Option.{Option};
 ghost use Rattle.std.specs.Io.KnownBytes.{WriteAppends};
 ghost use Rattle.vd_outside.specs.Count.{HasCause};
@@ -22,12 +22,13 @@ pub trait Sink {
     ghost faults: { Self → ℕ };
 
     /// Writes a front of `bytes`, at least one byte where there is one, and answers how many. A fault
-    /// writes nothing.
+    /// writes nothing. Only a write that failed counts a fault.
     fn write(&mut self, bytes: &[u8]) -> Result<usize, SinkFault>
         ensures count { IfOk result (λ n. n ≤ length bytes.now) }
         ensures progress { IfOk result (λ n. 0 < length bytes.now → 0 < n) }
         ensures appended { WriteAppends (written self.old) (written self.new) result bytes.now }
         ensures cause { HasCause (IsErrOf result SinkFault.Failed) (faults self.old) (faults self.new) }
+        ensures no_fault { OnOk result (faults self.new ≡ faults self.old) }
         ensures memory { IsErrOf result SinkFault.OutOfMemory → faults self.new ≡ faults self.old }
         ensures never_lower { faults self.old ≤ faults self.new };
 }

@@ -1,5 +1,7 @@
 // A real stream: the edge to standard output.
-ghost use Rattle.std.specs.Prelude.{◌≡◌, ◌<◌, ◌≤◌, length, None, IfOk};
+ghost use Rattle.std.specs.Prelude.{◌≡◌, ◌<◌, ◌≤◌, length, None, IfOk, IsErr, IsErrOf, OnOk};
+ghost use Rattle.std.specs.Io.KnownBytes.{WriteAppends};
+ghost use Rattle.vd_outside.specs.Count.{HasCause};
 
 use crate::sink::{Sink, SinkFault};
 use std::io;
@@ -30,7 +32,18 @@ impl<W: Write> Sink for StreamSink<W> {
 
     ghost faults = { failed_writes };
 
-    fn write(&mut self, bytes: &[u8]) -> Result<usize, SinkFault> {
+    fn write(&mut self, bytes: &[u8]) -> Result<usize, SinkFault>
+        ensures count { IfOk result (λ n. n ≤ length bytes.now) }
+        ensures progress { IfOk result (λ n. 0 < length bytes.now → 0 < n) }
+        ensures appended { WriteAppends None None result bytes.now }
+        ensures cause { HasCause (IsErrOf result SinkFault.Failed) (failed_writes self.old) (failed_writes self.new) }
+        ensures no_fault { OnOk result (failed_writes self.new ≡ failed_writes self.old) }
+        ensures memory { IsErrOf result SinkFault.OutOfMemory → failed_writes self.new ≡ failed_writes self.old }
+        ensures never_lower { failed_writes self.old ≤ failed_writes self.new }
+
+        // It keeps no bytes, and so wants no memory for them.
+        ensures only { IsErr result → IsErrOf result SinkFault.Failed }
+    {
         if bytes.is_empty() {
             return Ok(0);
         }

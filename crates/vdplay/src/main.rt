@@ -12,6 +12,7 @@ mod writing;
 
 pub use exit::Exit;
 pub use run::run_plain;
+use std::io::ErrorKind;
 use std::process::ExitCode;
 use std::rt::Env;
 use std::{env, io};
@@ -35,6 +36,10 @@ fn main(rt: HostRuntime) -> ExitCode {
 
 // The words of the command line, without the program's own name. A word that isn't UTF-8 is in no line.
 fn words<R: Env + AllocGlobal>(rt: &R) -> Result<Vec<String>, Exit> {
-    let words = env::args(rt).map_err(|_| Exit::Usage)?;
+    let words = match env::args(rt) {
+        Ok(words) => words,
+        Err(fault) if fault.kind() == ErrorKind::OutOfMemory => return Err(Exit::OutOfMemory),
+        Err(_) => return Err(Exit::Usage),
+    };
     Ok(words.skip(1).collect(rt.alloc())?)
 }

@@ -1,5 +1,5 @@
 // Reads of whole fronts of files.
-ghost use Rattle.std.specs.Prelude.{◌≡◌, ◌≤◌, min, length, take, IfOk, IfSome, IsErr};
+ghost use Rattle.std.specs.Prelude.{◌≡◌, ◌≤◌, min, length, take, IfOk, IfSome, IsErr, OnOk};
 ghost use Rattle.vd_outside.specs.Count.{HasCause};
 ghost use Rattle.vd_outside.specs.Shelf.{told};
 
@@ -13,6 +13,7 @@ pub fn read_front<S: Shelf>(shelf: &mut S, name: &str, buf: &mut [u8]) -> Result
         (n ≡ min (length buf.old) (length file)) × (take n buf.new ≡ take n file))) }
     ensures kept { S.content shelf.new ≡ S.content shelf.old }
     ensures cause { HasCause (IsErr result) (S.faults shelf.old name.now) (S.faults shelf.new name.now) }
+    ensures faultless { OnOk result (S.faults shelf.new name.now ≡ S.faults shelf.old name.now) }
     ensures never_lower { S.faults shelf.old name.now ≤ S.faults shelf.new name.now }
 {
     let mut filled = 0;

@@ -1,5 +1,5 @@
 // The commands that wait for nobody.
-ghost use Rattle.std.specs.Prelude.{◌≡◌, ◌⊎◌, ◌↔◌, ℕ, List, IfOk, IfErr, IfSome, IsErrOf};
+ghost use Rattle.std.specs.Prelude.{◌≡◌, ◌⊎◌, ◌↔◌, ℕ, List, IfOk, IfErr, IfSome, IsErrOf, OnOk};
 ghost use Rattle.std.specs.Io.KnownBytes.{Appends, Keeps};
 ghost use Rattle.vd_outside.specs.Count.{HasCause, Rose};
 ghost use Rattle.vd_outside.specs.Shelf.{told};
@@ -48,6 +48,10 @@ pub fn run_plain<S: Shelf, K: Sink>(
         HasCause (result ≡ Exit.ReadFault) (S.faults shelf.old name) (S.faults shelf.new name) }
     ensures write_fault { HasCause (result ≡ Exit.WriteFault) (K.faults sink.old) (K.faults sink.new) }
 
+    // A fault ends the run where it is met: none was counted on the way to Done.
+    ensures faultless { (name : List ℕ) → IsDecode (texts words.now) name → result ≡ Exit.Done →
+        (S.faults shelf.new name ≡ S.faults shelf.old name) × (K.faults sink.new ≡ K.faults sink.old) }
+
     // Without a counted fault a line of the grammar is done, or finds a file that isn't built, or wants
     // memory; and a file of the form is done or wants memory.
     ensures exits { (name : List ℕ) → IsDecode (texts words.now) name →
@@ -73,6 +77,7 @@ fn load<S: Shelf>(alloc: Global, shelf: &mut S, name: &str) -> Result<Vec<u8>, E
     ensures built { IfOk result (λ samples. IfSome (told (S.content shelf.old) name.now) (λ file. IsFirstForm file samples.items)) }
     ensures not_built { IsErrOf result (Exit.NotBuilt 0) → IfSome (told (S.content shelf.old) name.now) IsNotBuilt }
     ensures cause { HasCause (IsErrOf result Exit.ReadFault) (S.faults shelf.old name.now) (S.faults shelf.new name.now) }
+    ensures faultless { OnOk result (S.faults shelf.new name.now ≡ S.faults shelf.old name.now) }
     ensures exits { IfErr result (λ exit. (exit ≡ Exit.NotBuilt 0) ⊎ (exit ≡ Exit.ReadFault) ⊎ (exit ≡ Exit.OutOfMemory)) }
 {
     let mut front = [0; first_form::LONGEST + 1];
@@ -86,6 +91,7 @@ fn store<K: Sink>(sink: &mut K, samples: &[u8]) -> Exit
     ensures done { result ≡ Exit.Done → Appends (K.written sink.old) (K.written sink.new) samples.now }
     ensures front { AppendsFront (K.written sink.old) (K.written sink.new) samples.now }
     ensures cause { HasCause (result ≡ Exit.WriteFault) (K.faults sink.old) (K.faults sink.new) }
+    ensures faultless { result ≡ Exit.Done → K.faults sink.new ≡ K.faults sink.old }
     ensures exits { (result ≡ Exit.Done) ⊎ (result ≡ Exit.WriteFault) ⊎ (result ≡ Exit.OutOfMemory) }
 {
     match write_all(sink, samples) {

@@ -351,9 +351,44 @@ fn reads_and_writes_real_files(rt: HostRuntime) -> Result<(), Fail> {
         &mut full,
     );
     assert_eq!(rt; exit, Exit::WriteFault);
+
+    // One that takes a byte at once.
+    let mut bytes = Bytes {
+        taken: Vec::new(alloc),
+    };
+    let mut slow = StreamSink::new(&mut bytes);
+    let exit = run_plain(
+        alloc,
+        &words(alloc, &["decode", &name])?,
+        &mut shelf,
+        &mut slow,
+    );
+    drop(slow);
+    assert_eq!(rt; exit, Exit::Done);
+    assert_eq!(rt; bytes.taken.as_slice(), grey.as_slice());
     fs::remove_file(&rt, name.as_str())?;
     fs::remove_file(&rt, planes.as_str())?;
     Ok(())
+}
+
+// A stream that takes a byte at once.
+#[derive(Drop)]
+struct Bytes {
+    taken: Vec<u8>,
+}
+
+impl io::Write for Bytes {
+    fn write(&mut self, buf: &[u8]) -> io::Result<usize> {
+        if let Some(byte) = buf.first() {
+            self.taken.push(*byte)?;
+            return Ok(1);
+        }
+        Ok(0)
+    }
+
+    fn flush(&mut self) -> io::Result<()> {
+        Ok(())
+    }
 }
 
 // A stream with no room.

@@ -1,5 +1,5 @@
 // Writes of all bytes.
-ghost use Rattle.std.specs.Prelude.{◌≤◌, OnOk, IsErrOf};
+ghost use Rattle.std.specs.Prelude.{◌≡◌, ◌≤◌, OnOk, IsErrOf};
 ghost use Rattle.std.specs.Io.KnownBytes.{Appends};
 ghost use Rattle.vd_outside.specs.Count.{HasCause};
 ghost use Rattle.vdplay.specs.Run.{AppendsFront};
@@ -11,6 +11,7 @@ pub fn write_all<K: Sink>(sink: &mut K, bytes: &[u8]) -> Result<(), SinkFault>
     ensures all { OnOk result (Appends (K.written sink.old) (K.written sink.new) bytes.now) }
     ensures front { AppendsFront (K.written sink.old) (K.written sink.new) bytes.now }
     ensures cause { HasCause (IsErrOf result SinkFault.Failed) (K.faults sink.old) (K.faults sink.new) }
+    ensures faultless { OnOk result (K.faults sink.new ≡ K.faults sink.old) }
     ensures never_lower { K.faults sink.old ≤ K.faults sink.new }
 {
     let mut written = 0;

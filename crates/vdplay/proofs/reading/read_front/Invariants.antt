@@ -8,7 +8,7 @@ abbrev pub invariant-loop-filled : goal.invariant-loop-filled
 invariant-loop-filled g l =
     (l.filled ≤ length l.buf)
     × (g.S.Shelf.content l.shelf ≡ g.S.Shelf.content l.fn.shelf)
-    × (g.S.Shelf.faults l.fn.shelf l.name ≤ g.S.Shelf.faults l.shelf l.name)
+    × (g.S.Shelf.faults l.shelf l.name ≡ g.S.Shelf.faults l.fn.shelf l.name)
     × HasFront (told (g.S.Shelf.content l.fn.shelf) l.name) l.filled l.buf
 
 abbrev pub decreases-loop-filled : goal.decreases-loop-filled

@@ -76,6 +76,7 @@ returns-in_default c =
       taken = omega arith;
       some = λ _. omega arith;
       all = λ nothing. absurd (c.in_default.not-Nothing nothing);
+      empty = λ none. absurd (omega arith);
       stands = λ t stands. slice_next_stands t xs c.push.new.self (i + r) inside (c.push.ensures.stands (t ++ take (i + r) xs) (skipped t stands));
       settles = λ t s stands known. slice_next t xs (s ++ unit_in c.push.result) (broken_in c.push.result) (i + r) inside (c.push.ensures.settles (t ++ take (i + r) xs) s None (skipped t stands) (quiet t s stands known (i + r) (omega arith)));
       first = λ t s stands known k early. quiet t s stands known k (omega arith);

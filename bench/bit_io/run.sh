@@ -2,8 +2,8 @@
 # Measures reads of ue codes against the same loop in plain Rust. Run by hand: sh bench/bit_io/run.sh
 set -e
 here=$(cd "$(dirname "$0")" && pwd)
-work=${1:-/tmp/bit_io_bench}
-rm -rf "$work"
+work=$(mktemp -d)
+trap 'rm -rf "$work"' EXIT
 mkdir -p "$work/crates/ue_bench/src"
 cp -r "$here/../../crates/bit_io" "$work/crates/bit_io"
 rm -rf "$work/crates/bit_io/must-fail"

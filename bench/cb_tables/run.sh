@@ -2,9 +2,9 @@
 # Measures look-ups of coeff_token against the same look-up in plain Rust. Run by hand: sh bench/cb_tables/run.sh
 set -e
 here=$(cd "$(dirname "$0")" && pwd)
-work=${1:-/tmp/cb_tables_bench}
+work=$(mktemp -d)
+trap 'rm -rf "$work"' EXIT
 crate=$here/../../crates/cb_tables
-rm -rf "$work"
 mkdir -p "$work/crates/token_bench/src"
 cp -r "$crate" "$work/crates/cb_tables"
 rm -rf "$work/crates/cb_tables/must-fail"

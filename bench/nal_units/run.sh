@@ -3,6 +3,7 @@
 set -eu
 here=$(cd "$(dirname "$0")/../.." && pwd)
 work=$(mktemp -d)
+trap 'rm -rf "$work"' EXIT
 mkdir -p "$work/crates/bench/src" "$work/crates/bench/proofs/units_of" "$work/crates/bench/proofs/ones_of"
 cp -r "$here/crates/nal_units" "$work/crates/nal_units"
 if [ -f "$here/HANDLES" ]; then cp "$here/HANDLES" "$work/HANDLES"; fi
@@ -183,4 +184,3 @@ loop-at-preserved c =
 END
 cd "$work/crates/bench"
 rt run
-rm -rf "$work"

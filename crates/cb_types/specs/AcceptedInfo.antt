@@ -4,6 +4,7 @@ use Rattle.std.specs.List.{list_all}
 use Rattle.cb_types.specs.References.{is_absent, is_unused}
 use Rattle.cb_types.specs.declared.picture_info.PictureInfo.{PictureInfo}
 use Rattle.cb_types.specs.declared.picture_info.Reference.{Reference}
+use Rattle.cb_types.specs.declared.picture_info.ScalingList4x4.{ScalingList4x4}
 
 -- MaxFrameNum (H.264, 7.4.2.1.1)
 abbrev pub max_frame_num : PictureInfo → ℕ
@@ -38,6 +39,10 @@ are_all_apart (entry ∷ later) = list_all (are_apart entry) later && are_all_ap
 abbrev pub takes_weights : ℕ → Bool
 takes_weights profile = profile == 1
 
+-- Each weight is 16, as where no scaling list is sent (Flat_4x4_16, H.264, 7.4.2.1.1).
+abbrev pub is_flat : ScalingList4x4 → Bool
+is_flat list = list_all (λ weight. weight == 16) list.0
+
 -- Each field, at its number, is one that a decoder of this profile with so many references takes. Field 0 is that number
 -- of references itself.
 abbrev pub accepted_fields : ℕ → ℕ → PictureInfo → List Bool
@@ -60,7 +65,7 @@ accepted_fields profile max_references info =
     ∷ (nat_le info.pic_order_cnt_type 2)
     ∷ (nat_le info.log2_max_pic_order_cnt_lsb_minus4 12)
     ∷ (nat_lt info.frame_num (max_frame_num info))
-    ∷ (list_all (list_all (λ weight. weight == 16)) info.scaling_lists_4x4)
+    ∷ (list_all is_flat info.scaling_lists_4x4)
     ∷ (list_all (is_reference_accepted (max_frame_num info)) info.references && are_all_apart info.references)
     ∷ []
 

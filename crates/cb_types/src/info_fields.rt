@@ -1,9 +1,9 @@
 // Which fields of a picture info a decoder takes.
 ghost use Rattle.std.specs.Prelude.{◌≡◌, ◌^◌, ◌≤◌, ◌↔◌, ◌&&◌, ◌==◌, nat_lt, MatchOption};
 ghost use Rattle.std.specs.List.{list_all};
-ghost use Rattle.cb_types.specs.AcceptedInfo.{accepted_fields, are_all_apart, are_apart, is_reference_accepted, max_frame_num, IsAccepted, IsFirstRefused};
+ghost use Rattle.cb_types.specs.AcceptedInfo.{accepted_fields, are_all_apart, are_apart, is_flat, is_reference_accepted, max_frame_num, IsAccepted, IsFirstRefused};
 
-use super::picture_info::{PictureInfo, Reference};
+use super::picture_info::{PictureInfo, Reference, ScalingList4x4};
 
 /// The first field of a picture info that a decoder of this profile with so many references doesn't take,
 /// None where it takes them all.
@@ -63,16 +63,16 @@ fn is_frame_num(number: u16, info: &PictureInfo) -> bool
 }
 
 // Whether each weight is 16, as where no list is sent (Flat_4x4_16).
-fn are_scaling_lists_flat(lists: &[[u8; 16]; 6]) -> bool
-    ensures { result ≡ list_all (list_all (λ weight. weight == 16)) lists.now }
+fn are_scaling_lists_flat(lists: &[ScalingList4x4; 6]) -> bool
+    ensures { result ≡ list_all is_flat lists.now }
 {
     lists.iter().all(|list| is_flat(list))
 }
 
-fn is_flat(list: &[u8; 16]) -> bool
-    ensures { result ≡ list_all (λ weight. weight == 16) list.now }
+fn is_flat(list: &ScalingList4x4) -> bool
+    ensures { result ≡ is_flat list.now }
 {
-    list.iter().all(|weight| *weight == 16)
+    list.0.iter().all(|weight| *weight == 16)
 }
 
 fn are_references_accepted(info: &PictureInfo) -> bool

@@ -59,6 +59,18 @@ pub enum MbKind {
     FourFirst([Sub; 4], u32),
 }
 
+/// The transform coefficient levels of a 4x4 block, in the order of the zig-zag scan.
+#[derive(Clone, Copy, Debug, PartialEq, Eq)]
+pub struct Levels(pub [i32; 16]);
+
+/// The DC levels of the four blocks of Cb or Cr.
+#[derive(Clone, Copy, Debug, PartialEq, Eq)]
+pub struct DcLevels(pub [i32; 4]);
+
+/// The levels of the four blocks of Cb or Cr, without those of DC.
+#[derive(Clone, Copy, Debug, PartialEq, Eq)]
+pub struct ChromaLevels(pub [Levels; 4]);
+
 /// A macroblock (H.264, 7.3.5): its kind, mb_qp_delta and its transform coefficient levels.
 ///
 /// Levels are in the order of the zig-zag scan, and those of a block that isn't coded are 0. `luma_dc` is
@@ -70,9 +82,9 @@ pub struct Macroblock {
     pub kind: MbKind,
     pub qp_delta: i32,
     pub luma_dc: [i32; 16],
-    pub luma: [[i32; 16]; 16],
-    pub chroma_dc: [[i32; 4]; 2],
-    pub chroma: [[[i32; 16]; 4]; 2],
+    pub luma: [Levels; 16],
+    pub chroma_dc: [DcLevels; 2],
+    pub chroma: [ChromaLevels; 2],
 }
 
 impl Macroblock {
@@ -81,8 +93,8 @@ impl Macroblock {
         kind: MbKind::Skip,
         qp_delta: 0,
         luma_dc: [0; 16],
-        luma: [[0; 16]; 16],
-        chroma_dc: [[0; 4]; 2],
-        chroma: [[[0; 16]; 4]; 2],
+        luma: [Levels([0; 16]); 16],
+        chroma_dc: [DcLevels([0; 4]); 2],
+        chroma: [ChromaLevels([Levels([0; 16]); 4]); 2],
     };
 }

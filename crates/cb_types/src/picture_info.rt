@@ -50,12 +50,19 @@ impl Reference {
     }
 }
 
+/// The weights of a 4x4 scaling list, in the order of the zig-zag scan.
+#[derive(Clone, Copy, Debug, PartialEq, Eq)]
+pub struct ScalingList4x4(pub [u8; 16]);
+
+/// The weights of an 8x8 scaling list, in the order of the zig-zag scan.
+#[derive(Clone, Copy, Debug, PartialEq, Eq)]
+pub struct ScalingList8x8(pub [u8; 64]);
+
 /// The fields of a picture's parameter sets and first slice header that its decoding needs, and its
 /// references (VdpPictureInfoH264 of vdpau.h; the names are those of H.264, 7.3.2 and 7.3.3).
 ///
 /// `field_order_cnt` has the counts of the top and the bottom field. `num_ref_frames` is
-/// max_num_ref_frames, `pic_order_present_flag` is bottom_field_pic_order_in_frame_present_flag, and
-/// both scaling lists are in the order of the zig-zag scan.
+/// max_num_ref_frames, `pic_order_present_flag` is bottom_field_pic_order_in_frame_present_flag.
 #[derive(Clone, Copy, Debug, PartialEq, Eq)]
 pub struct PictureInfo {
     pub slice_count: u32,
@@ -85,7 +92,7 @@ pub struct PictureInfo {
     pub pic_order_present_flag: bool,
     pub deblocking_filter_control_present_flag: bool,
     pub redundant_pic_cnt_present_flag: bool,
-    pub scaling_lists_4x4: [[u8; 16]; 6],
-    pub scaling_lists_8x8: [[u8; 64]; 2],
+    pub scaling_lists_4x4: [ScalingList4x4; 6],
+    pub scaling_lists_8x8: [ScalingList8x8; 2],
     pub references: [Reference; 16],
 }

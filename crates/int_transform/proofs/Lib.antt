@@ -1,0 +1,9 @@
+pub mod BlockRows
+pub mod ChromaQps
+pub mod Columns
+pub mod DcValues
+pub mod Computed
+pub mod Places
+pub mod SampleColumns
+pub mod Scales
+pub mod Whole

@@ -1,0 +1,5 @@
+pub mod Bounds
+pub mod ChromaQuantizer
+pub mod DcBlocks
+pub mod Residual
+pub mod Scan

@@ -1,1 +1,2 @@
+pub mod InfoFacts
 pub mod NeighbourLemmas

@@ -1,0 +1,5 @@
+pub mod Blocks
+pub mod Coefficients
+pub mod Levels
+pub mod Parts
+pub mod Turns

@@ -1,0 +1,9 @@
+use Rattle.param_sets.specs.Sps.{cycle, no_cycle}
+use Rattle.param_sets.proofs.Tables.{gives_absent, gives_present}
+use Rattle.param_sets.proofs.sps_reading.read_cycle.Goals as goal
+
+pub returns-then-not-is_present : goal.returns-then-not-is_present
+returns-then-not-is_present c = gives_absent cycle no_cycle c.args.is_present c.args.reader.now c.if-not-is_present.true
+
+pub returns : goal.returns
+returns c = gives_present cycle no_cycle c.args.is_present c.args.reader.now c.read_present_cycle.new.reader c.read_present_cycle.result c.if-not-is_present.false c.read_present_cycle.ensures

@@ -1,0 +1,9 @@
+use Rattle.param_sets.specs.Syntax.{ue, up_to}
+use Rattle.param_sets.proofs.Tables.{gives_absent, gives_present}
+use Rattle.param_sets.proofs.sps_reading.read_lsb_length.Goals as goal
+
+pub returns-then-not-is_present : goal.returns-then-not-is_present
+returns-then-not-is_present c = gives_absent (ue (up_to 12)) 0 c.args.is_present c.args.reader.now c.if-not-is_present.true
+
+pub returns : goal.returns
+returns c = gives_present (ue (up_to 12)) 0 c.args.is_present c.args.reader.now c.read_ue_up_to.new.reader c.read_ue_up_to.result c.if-not-is_present.false c.read_ue_up_to.ensures

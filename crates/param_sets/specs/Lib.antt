@@ -1,0 +1,5 @@
+pub mod Accepted
+pub mod Parts
+pub mod Pps
+pub mod Sps
+pub mod Syntax

@@ -1,0 +1,9 @@
+pub mod LaneLemmas
+pub mod Mixed
+pub mod Moved
+pub mod Parted
+pub mod RowsOf
+pub mod Scaled
+pub mod Shown
+pub mod Sums
+pub mod Table

@@ -1,0 +1,6 @@
+use Rattle.std.proofs.Common.{◌≡◌, ℕ, ◌+◌, ◌*◌, ◌<◌, get_or}
+use Rattle.inter_pred.specs.Rows.{half_in}
+use Rattle.inter_pred.proofs.blocks.half_rows.Given as goal
+
+abbrev pub invariant-loop-row : goal.invariant-loop-row
+invariant-loop-row l = (x y : ℕ) → x < l.width → y < l.row → get_or l.out (y * l.width + x) 0 ≡ half_in l.window l.step (l.start + y * l.stride + x)

@@ -1,0 +1,6 @@
+use Rattle.std.proofs.Common.{◌≡◌, ℕ, ◌+◌, ◌*◌, ◌<◌, ◌≤◌, get_or}
+use Rattle.inter_pred.specs.Luma.{mean}
+use Rattle.inter_pred.proofs.blocks.mean_rows.Given as goal
+
+abbrev pub invariant-loop-row : goal.invariant-loop-row
+invariant-loop-row l = ((x y : ℕ) → x < l.width → y < l.row → get_or l.out (y * l.width + x) 0 ≡ mean (get_or l.initial.out (y * l.width + x) 0) (get_or l.window (l.start + y * l.stride + x) 0)) × ((k : ℕ) → l.row * l.width ≤ k → get_or l.out k 0 ≡ get_or l.initial.out k 0)

@@ -2,9 +2,9 @@
 # Measures reads of blocks against the same reading in plain Rust. Run by hand: sh bench/cavlc/run.sh
 set -e
 here=$(cd "$(dirname "$0")" && pwd)
-work=${1:-/tmp/cavlc_bench}
+work=$(mktemp -d)
+trap 'rm -rf "$work"' EXIT
 crates=$here/../../crates
-rm -rf "$work"
 mkdir -p "$work/crates/block_bench/src"
 for name in bit_io cb_tables cavlc; do
     cp -r "$crates/$name" "$work/crates/$name"

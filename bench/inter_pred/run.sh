@@ -2,9 +2,9 @@
 # Measures luma prediction against the same in plain Rust. Run by hand: sh bench/inter_pred/run.sh
 set -e
 here=$(cd "$(dirname "$0")" && pwd)
-work=${1:-/tmp/inter_pred_bench}
+work=$(mktemp -d)
+trap 'rm -rf "$work"' EXIT
 crates=$here/../../crates
-rm -rf "$work"
 mkdir -p "$work/crates/luma_bench/src"
 for name in cb_types vd_plane inter_pred; do
     cp -r "$crates/$name" "$work/crates/$name"

@@ -96,3 +96,17 @@ pub struct PictureInfo {
     pub scaling_lists_8x8: [ScalingList8x8; 2],
     pub references: [Reference; 16],
 }
+
+impl PictureInfo {
+    ghost use Rattle.std.specs.Prelude.{◌≡◌, ◌^◌, ◌≤◌};
+    ghost use Rattle.cb_types.specs.AcceptedInfo.{max_frame_num};
+
+    /// MaxFrameNum (H.264, 7.4.2.1.1), up to 65,536.
+    pub fn max_frame_num(&self) -> u32
+        requires { self.now.log2_max_frame_num_minus4 ≤ 12 }
+        ensures value { result ≡ max_frame_num self.now }
+        ensures greatest { result ≤ 2 ^ 16 }
+    {
+        1 << (u32::from(self.log2_max_frame_num_minus4) + 4)
+    }
+}

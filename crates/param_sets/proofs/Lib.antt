@@ -9,3 +9,4 @@ pub mod SpsAnswers
 pub mod SpsRanges
 pub mod Tables
 pub mod Unique
+mod Worked

@@ -7,5 +7,7 @@ pub mod OnesLemmas
 pub mod PartLemmas
 pub mod RunLemmas
 pub mod SameLemmas
+pub mod SizeLemmas
 pub mod TurnLemmas
 pub mod WordLemmas
+mod Worked

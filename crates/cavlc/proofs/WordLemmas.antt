@@ -14,8 +14,7 @@ use Rattle.bit_io.specs.Reads.{BeginsNone, IsPrefixFree}
 use Rattle.cavlc.proofs.CodeLemmas.{number_at, window_front}
 use Rattle.cavlc.specs.declared.levels.LevelState.{LevelState}
 use Rattle.cavlc.specs.declared.levels.LevelWord.{LevelWord}
-use Rattle.cavlc.specs.Levels.{HasLevelCode, escape, level_bits, level_code, level_word, word_bits}
-use Rattle.cavlc.specs.Parts.{IsLevelWord, suffix_size, word_code}
+use Rattle.cavlc.specs.Levels.{HasLevelCode, IsLevelWord, escape, level_bits, level_code, level_word, suffix_size, word_bits, word_code}
 
 two_pow : (k : ℕ) → 2 ^ suc k ≡ 2 ^ k + 2 ^ k
 two_pow k = pow-suc 2 k ∙ omega arith
@@ -139,6 +138,9 @@ word_at w z size n bits fits over is long few held =
 
 -- codes and words
 
+not_zero : (n : ℕ) → eqb (suc n) 0 ≡ false
+not_zero n = ne_eqb (suc n) 0 (λ e. omega (arith, e))
+
 -- the word of a code: at suffix length 0 the code itself, 14 or 15 as the prefix, else its high bits or 15
 pub word_short : (code : ℕ) → code < 14 → level_word 0 code ≡ record { prefix = code; size = 0; suffix = 0 }
 unfolding level_word
@@ -150,14 +152,11 @@ word_middle code h k = rw (lt-ltb code 30 k, le-ltb code 14 h) refl
 
 pub word_low : (n code : ℕ) → code < 15 * 2 ^ suc n → level_word (suc n) code ≡ record { prefix = code / 2 ^ suc n; size = suc n; suffix = code % 2 ^ suc n }
 unfolding level_word
-word_low n code h = rw (lt-ltb code (15 * 2 ^ suc n) h, lt-ltb 0 (suc n) (omega arith)) refl
+word_low n code h = rw (lt-ltb code (15 * 2 ^ suc n) h, not_zero n) refl
 
 pub word_escaped : (s code : ℕ) → escape s ≤ code → level_word s code ≡ record { prefix = 15; size = 12; suffix = code - escape s }
 unfolding level_word
 word_escaped s code h = rw (le-ltb code (escape s) h) refl
-
-not_zero : (n : ℕ) → eqb (suc n) 0 ≡ false
-not_zero n = ne_eqb (suc n) 0 (λ e. omega (arith, e))
 
 and_false : (b : Bool) → (b && false) ≡ false
 and_false true = refl

@@ -1,12 +1,11 @@
 -- What the steps of reading and writing a block say.
-use Rattle.std.specs.Prelude.{◌≡◌, ℕ, ◌+◌, ◌-◌, ◌*◌, ◌^◌, ◌<◌, ◌≤◌, ◌==◌, ◌&&◌, if◌then◌else◌, min, Bool, List, ◌++◌, length, take, All, Option, Some, None, ℤ, pos, unsigned_abs}
+use Rattle.std.specs.Prelude.{◌≡◌, ℕ, ◌+◌, ◌-◌, ◌≤◌, min, Bool, List, ◌++◌, length, take, All, Option, Some, None, ℤ, pos, unsigned_abs}
 use Rattle.std.specs.List.{slice_index_or}
 use Rattle.bit_io.specs.Reads.{BeginsNone}
 use Rattle.cavlc.specs.Blocks.{HasRunCode, HasZerosCode, left_behind}
 use Rattle.cavlc.specs.Coefficients.{levels, total_zeros}
 use Rattle.cavlc.specs.Levels.{HaveLevelCodes}
 use Rattle.cavlc.specs.Turns.{AreInTurn}
-use Rattle.cavlc.specs.declared.levels.LevelWord.{LevelWord}
 
 -- As Reads of bit_io, but that what is left after a None is open.
 abbrev pub Gives : {V : Type 0} → (V → Type 0) → (V → List Bool) → List Bool → Option V → List Bool → Type 0
@@ -22,20 +21,6 @@ pub record AreLevels (total ones : ℕ) (levels : List ℤ) : Type 0 where
   pub few : ones ≤ min 3 total
   pub each : All IsOne (take ones levels)
   pub codes : HaveLevelCodes total ones levels
-
--- 9.2.2.1: how many bits level_suffix has
-abbrev pub suffix_size : ℕ → ℕ → ℕ
-suffix_size prefix suffix_length = if prefix == 15 then 12 else (if prefix == 14 && (suffix_length == 0) then 4 else suffix_length)
-
--- 9.2.2.1: the code that level_prefix and level_suffix give
-abbrev pub word_code : ℕ → ℕ → ℕ → ℕ
-word_code prefix suffix suffix_length = prefix * 2 ^ suffix_length + suffix + (if prefix == 15 && (suffix_length == 0) then 15 else 0)
-
--- what can be read as a level
-pub record IsLevelWord (suffix_length : ℕ) (word : LevelWord) : Type 0 where
-  pub prefix_fits : word.prefix ≤ 15
-  pub size_is : word.size ≡ suffix_size word.prefix suffix_length
-  pub suffix_fits : word.suffix < 2 ^ word.size
 
 -- total_zeros, which is 0 where it isn't spelled
 pub record IsZeros (most total zeros : ℕ) : Type 0 where

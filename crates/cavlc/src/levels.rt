@@ -1,8 +1,8 @@
 // The levels of a block: the signs of the trailing ones, and the levels behind them. H.264, 9.2.2.
 ghost use Rattle.std.specs.Prelude.{◌≡◌, ◌≢◌, ◌≤◌, ◌<◌, ◌+◌, ◌-◌, ◌^◌, [], ◌∷◌, ◌++◌, All, OnErr, OnOk, length, map, option_map, pos, take};
 ghost use Rattle.bit_io.specs.Bits.{u};
-ghost use Rattle.cavlc.specs.Levels.{HasLevelCode, escape, first_level, level_bits, level_code, level_word, levels_bits, next_level, sign, word_bits};
-ghost use Rattle.cavlc.specs.Parts.{AreLevels, Gives, IsOne, IsLevelWord, IsLonger, suffix_size, word_code};
+ghost use Rattle.cavlc.specs.Levels.{HasLevelCode, IsLevelWord, escape, first_level, level_bits, level_code, level_word, levels_bits, next_level, sign, suffix_size, word_bits, word_code};
+ghost use Rattle.cavlc.specs.Parts.{AreLevels, Gives, IsOne, IsLonger};
 ghost use Rattle.cavlc.specs.Turns.{AreInTurn, in_turn};
 
 use bit_io::{BitReader, BitWriter};

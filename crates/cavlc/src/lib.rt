@@ -7,6 +7,6 @@ mod levels;
 mod reading;
 mod writing;
 
-pub use laws::blocks_are_prefix_free;
+pub use laws::{blocks_are_prefix_free, coefficients_are_small, level_words_give_codes_back};
 pub use reading::{read_block, read_block_into};
 pub use writing::write_block;

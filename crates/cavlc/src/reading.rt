@@ -33,6 +33,7 @@ pub fn read_block_into(
     requires { most ≤ 16 }
     ensures reads { Reads (HasSpelling nc most) (block_bits nc most) reader.old (option_map (λ total. into.new) result) reader.new }
     ensures total { IfSome result (λ total. total ≡ total_coeff into.new) }
+    ensures within { IfSome result (λ total. total ≤ most) }
 {
     let mut ahead = reader.fork();
     let token = read_token(&mut ahead, nc)?;

@@ -13,7 +13,7 @@ Near = ℕ → ℕ → ℕ
 abbrev pub near : SampleArray → ℤ → ℤ → Near
 near a x y c r = nearest_sample a ((x -ℤ pos 2) +ℤ pos c) ((y -ℤ pos 2) +ℤ pos r)
 
--- the filter of six taps
+-- the filter of six taps: E - 5 F + 20 G + 20 H - 5 I + J
 abbrev pub six_taps : ℤ → ℤ → ℤ → ℤ → ℤ → ℤ → ℤ
 six_taps e f g h i j = ((e +ℤ j) -ℤ (pos 5 *ℤ (f +ℤ i))) +ℤ (pos 20 *ℤ (g +ℤ h))
 
@@ -21,7 +21,7 @@ six_taps e f g h i j = ((e +ℤ j) -ℤ (pos 5 *ℤ (f +ℤ i))) +ℤ (pos 20 *�
 abbrev pub taps : ℕ → ℕ → ℕ → ℕ → ℕ → ℕ → ℤ
 taps e f g h i j = six_taps (pos e) (pos f) (pos g) (pos h) (pos i) (pos j)
 
--- the sample half way between the third and the fourth of six
+-- the sample half way between the third and the fourth of six: ( b1 + 16 ) >> 5, clipped
 unfoldable pub half : ℕ → ℕ → ℕ → ℕ → ℕ → ℕ → ℕ
 half e f g h i j = clip (int_shr (taps e f g h i j +ℤ pos 16) 5)
 
@@ -43,7 +43,7 @@ h n = half (n 2 0) (n 2 1) (n 2 2) (n 2 3) (n 2 4) (n 2 5)
 unfoldable pub m : Near → ℕ
 m n = half (n 3 0) (n 3 1) (n 3 2) (n 3 3) (n 3 4) (n 3 5)
 
--- half a sample right and half a sample down, from sums that weren't rounded
+-- half a sample right and half a sample down, from sums that weren't rounded: ( j1 + 512 ) >> 10, clipped
 unfoldable pub j : Near → ℕ
 j n = clip (int_shr (six_taps (sum_across n 0) (sum_across n 1) (sum_across n 2) (sum_across n 3) (sum_across n 4) (sum_across n 5) +ℤ pos 512) 10)
 
@@ -51,7 +51,8 @@ j n = clip (int_shr (six_taps (sum_across n 0) (sum_across n 1) (sum_across n 2)
 unfoldable pub mean : ℕ → ℕ → ℕ
 mean u v = (u + v + 1) / 2
 
--- the sample so many quarters right of G and so many below it
+-- the sample so many quarters right of G and so many below it: a row of the table for each quarter down (Table 8-12).
+-- H stands right of G, and M below it
 unfoldable pub quarter : Near → ℕ → ℕ → ℕ
 quarter n right below = slice_index (slice_index_or (
     (G ∷ mean G (b n) ∷ b n ∷ mean H (b n) ∷ []) ∷

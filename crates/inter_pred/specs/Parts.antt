@@ -5,6 +5,7 @@ use Rattle.inter_pred.specs.declared.parts.Part.TheVariants.{Whole, WholeRight, 
 use Rattle.inter_pred.specs.declared.parts.Parts.{Parts}
 use Rattle.inter_pred.specs.Luma.{Near, b, h, j, m, mean, s}
 
+-- the sample of one kind
 unfoldable pub part_at : Part → Near → ℕ
 part_at Whole n = n 2 2
 part_at WholeRight n = n 3 2
@@ -15,6 +16,7 @@ part_at Down n = h n
 part_at DownRight n = m n
 part_at Centre n = j n
 
+-- a sample, or its mean with one of a second kind
 abbrev pub mean_with : ℕ → Option Part → Near → ℕ
 mean_with u None n = u
 mean_with u (Some second) n = mean u (part_at second n)

@@ -3,7 +3,7 @@ use Rattle.std.specs.Prelude.{ℕ, suc, zero, ◌^◌, ℤ, pos, ◌+ℤ◌, ◌
 use Rattle.std.specs.Int.{int_shr}
 use Rattle.inter_pred.specs.Places.{clip}
 
--- a number over 2 to the power of denom, rounded
+-- a number over 2 to the power of denom, rounded; where denom is 0 it stays
 unfoldable pub scaled : ℕ → ℤ → ℤ
 scaled zero z = z
 scaled (suc n) z = int_shr (z +ℤ pos (2 ^ n)) (suc n)

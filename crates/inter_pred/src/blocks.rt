@@ -8,6 +8,11 @@ ghost use Rattle.inter_pred.specs.Rows.{centre_in, half_in, raised_in};
 use crate::parts::{Part, Parts};
 use crate::rows::{centre_row, copy_row, half_row, mean_row, sum_row};
 
+// The samples of the greatest block, and the sums of the rows about it.
+const MOST_SAMPLES: usize = 256;
+
+const MOST_SUMS: usize = 336;
+
 // Copies rows of samples, from a place on.
 pub(crate) fn copy_rows(
     window: &[u8],
@@ -84,7 +89,7 @@ fn centres(window: &[u8], stride: usize, width: usize, height: usize, out: &mut 
     requires room { (r : ℕ) → r < height + 5 → r * stride + 5 + width ≤ length window.now }
     ensures { (i j : ℕ) → i < width → j < height → slice_index out.new (j * width + i) ≡ part_at Part.Centre (near_in window.now stride (j * stride + i)) }
 {
-    let mut sums = [0u16; 336];
+    let mut sums = [0u16; MOST_SUMS];
     let sums = &mut sums[..width * (height + 5)];
     sum_rows(window, stride, width, height + 5, sums);
     centre_rows(sums, width, height, out);
@@ -156,7 +161,7 @@ fn mix(part: Part, window: &[u8], stride: usize, width: usize, height: usize, ou
     if let Some(start) = whole_start(part, stride) {
         mean_rows(window, stride, start, width, height, out);
     } else {
-        let mut others = [0u8; 256];
+        let mut others = [0u8; MOST_SAMPLES];
         let others = &mut others[..width * height];
         fill(part, window, stride, width, height, others);
         mean_row(others, out);

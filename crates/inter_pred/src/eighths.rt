@@ -8,6 +8,9 @@ use crate::lanes::eighth_lanes;
 use crate::windows::inside;
 use vd_plane::Plane;
 
+// The whole samples about the greatest block.
+const MOST_SAMPLES: usize = 289;
+
 // Where a sample lies beyond a whole one, in eighths.
 #[derive(Clone, Copy)]
 pub(crate) struct Eighths {
@@ -110,7 +113,7 @@ pub(crate) fn predict(
             out,
         );
     } else {
-        let mut rect = [0u8; 289];
+        let mut rect = [0u8; MOST_SAMPLES];
         let rect = &mut rect[..(columns * rows) as usize];
         plane.clamped_rect(column, row, columns, rows, rect);
         eighth_rows(

@@ -16,6 +16,7 @@ fn load(samples: &[u8], at: usize) -> u16x8
     u8x8::from_slice(&samples[at..]).cast::<u16>()
 }
 
+// Eight sums.
 #[inline(always)]
 fn load_sums(sums: &[u16], at: usize) -> u16x8
     requires { at + 8 ≤ length sums.now }

@@ -27,6 +27,7 @@ pub(crate) struct Parts {
     pub(crate) second: Option<Part>,
 }
 
+// One sample by itself.
 fn alone(first: Part) -> Parts
     ensures { result ≡ record { first = first; second = None } }
 {
@@ -36,6 +37,7 @@ fn alone(first: Part) -> Parts
     }
 }
 
+// The mean of two.
 fn both(first: Part, second: Part) -> Parts
     ensures { result ≡ record { first = first; second = Some second } }
 {

@@ -8,6 +8,9 @@ use crate::parts::Parts;
 use crate::windows::inside;
 use vd_plane::Plane;
 
+// The whole samples about the greatest block.
+const MOST_SAMPLES: usize = 441;
+
 // The samples of one kind, or the means of two kinds, about each whole place of a rectangle.
 pub(crate) fn predict(
     plane: &Plane,
@@ -33,7 +36,7 @@ pub(crate) fn predict(
         let stride = plane.width() as usize;
         fill_all(parts, window, stride, width as usize, height as usize, out);
     } else {
-        let mut rect = [0u8; 441];
+        let mut rect = [0u8; MOST_SAMPLES];
         let rect = &mut rect[..(columns * rows) as usize];
         plane.clamped_rect(left, top, columns, rows, rect);
         fill_all(

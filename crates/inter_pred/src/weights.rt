@@ -2,6 +2,7 @@
 ghost use Rattle.std.specs.Prelude.{◌≡◌, ◌^◌, ◌≤◌, pos, ◌*ℤ◌, unsigned_abs};
 ghost use Rattle.inter_pred.specs.Weights.{scaled, weighted};
 
+// A sample times a weight.
 #[inline(always)]
 fn product(sample: u8, weight: i32) -> i32
     requires weight { unsigned_abs weight ≤ 128 }

@@ -27,6 +27,7 @@ pub fn residual(levels: &[i32; 16], dc: Option<i32>, qp: u32) -> [i32; 16]
 }
 
 // The samples of a block with this DC value, and these levels behind it.
+#[inline]
 fn block(dc: i32, ac: &[i32], qp: u32) -> [i32; 16]
     requires dc { IsWithin (2 ^ 27) dc }
     requires count { 15 ≤ length ac.now }
@@ -42,6 +43,7 @@ fn block(dc: i32, ac: &[i32], qp: u32) -> [i32; 16]
     }
 }
 
+#[inline]
 fn are_zero(levels: &[i32]) -> bool
     ensures { IsTrue result ↔ All (λ level. level ≡ pos 0) levels.now }
 {
@@ -49,6 +51,7 @@ fn are_zero(levels: &[i32]) -> bool
 }
 
 // The samples of a block that has a DC value alone.
+#[inline]
 fn flat(dc: i32) -> [i32; 16]
     requires { IsWithin (2 ^ 27) dc }
     ensures samples { (k : ℕ) → k < 16 → value_at result k ≡ int_shr (dc +ℤ pos 32) 6 }
@@ -57,6 +60,7 @@ fn flat(dc: i32) -> [i32; 16]
     [(dc + 32) >> 6; 16]
 }
 
+#[inline]
 fn full(dc: i32, ac: &[i32], qp: u32) -> [i32; 16]
     requires dc { IsWithin (2 ^ 27) dc }
     requires count { 15 ≤ length ac.now }
@@ -80,6 +84,7 @@ fn full(dc: i32, ac: &[i32], qp: u32) -> [i32; 16]
 }
 
 // A row, transformed, from its first value and its levels, whose scale is one in odd columns and another in even ones.
+#[inline]
 fn row(d0: i32, ac: &[i32], i: usize, j: usize, k: usize, odd: i32, even: i32) -> [i32; 4]
     requires d0 { IsWithin (2 ^ 27) d0 }
     requires ac { AreWithin 4096 ac.now }
@@ -100,6 +105,7 @@ fn row(d0: i32, ac: &[i32], i: usize, j: usize, k: usize, odd: i32, even: i32) -
 }
 
 // What a level is multiplied by at a place.
+#[inline]
 pub(crate) fn scale(qp: u32, place: u32) -> i32
     requires qp { qp ≤ 51 }
     requires place { place ≤ 15 }
@@ -109,6 +115,7 @@ pub(crate) fn scale(qp: u32, place: u32) -> i32
     (level_scale(qp % 6, place) << (qp / 6)) as i32
 }
 
+#[inline]
 fn scaled(level: i32, scale: i32) -> i32
     requires level { IsWithin 4096 level }
     requires scale { IsWithin (29 * 2 ^ 8) scale }
@@ -119,6 +126,7 @@ fn scaled(level: i32, scale: i32) -> i32
 }
 
 // The samples, from the four rows transformed.
+#[inline]
 fn columns(first: [i32; 4], second: [i32; 4], third: [i32; 4], fourth: [i32; 4]) -> [i32; 16]
     requires first { AreWithin (2 ^ 29) first }
     requires second { AreWithin (2 ^ 29) second }
@@ -136,6 +144,7 @@ fn columns(first: [i32; 4], second: [i32; 4], third: [i32; 4], fourth: [i32; 4])
 }
 
 // A column of samples.
+#[inline]
 fn column(d0: i32, d1: i32, d2: i32, d3: i32) -> [i32; 4]
     requires d0 { IsWithin (2 ^ 29) d0 }
     requires d1 { IsWithin (2 ^ 29) d1 }
@@ -153,6 +162,7 @@ fn column(d0: i32, d1: i32, d2: i32, d3: i32) -> [i32; 4]
 }
 
 // A row or a column of four values, transformed.
+#[inline]
 fn transformed(d0: i32, d1: i32, d2: i32, d3: i32) -> [i32; 4]
     requires d0 { IsWithin (2 ^ 29) d0 }
     requires d1 { IsWithin (2 ^ 29) d1 }

@@ -27,6 +27,7 @@ pub fn luma_dc(levels: &[i32; 16], qp: u32) -> [i32; 16]
 }
 
 // The DC values, from the four rows multiplied.
+#[inline]
 fn columns(
     first: [i32; 4],
     second: [i32; 4],
@@ -51,6 +52,7 @@ fn columns(
 }
 
 // A column of DC values, from the same column of the four rows multiplied.
+#[inline]
 fn column(c0: i32, c1: i32, c2: i32, c3: i32, qp: u32) -> [i32; 4]
     requires c0 { IsWithin (2 ^ 14) c0 }
     requires c1 { IsWithin (2 ^ 14) c1 }
@@ -70,6 +72,7 @@ fn column(c0: i32, c1: i32, c2: i32, c3: i32, qp: u32) -> [i32; 4]
 }
 
 // Four values, multiplied by the matrix.
+#[inline]
 fn times_four(c0: i32, c1: i32, c2: i32, c3: i32) -> [i32; 4]
     requires c0 { IsWithin (2 ^ 14) c0 }
     requires c1 { IsWithin (2 ^ 14) c1 }
@@ -90,6 +93,7 @@ fn times_four(c0: i32, c1: i32, c2: i32, c3: i32) -> [i32; 4]
 }
 
 // A quarter of the scaled value, rounded, which is exact from QP 12 on.
+#[inline]
 fn scaled_dc(f: i32, qp: u32) -> i32
     requires f { IsWithin (2 ^ 16) f }
     requires qp { qp ≤ 51 }
@@ -118,6 +122,7 @@ pub fn chroma_dc(levels: &[i32; 4], qpc: u32) -> [i32; 4]
 }
 
 // Half of a scaled value, rounded down.
+#[inline]
 fn half(f: i32, scale: i32) -> i32
     requires f { IsWithin (2 ^ 14) f }
     requires scale { IsWithin (29 * 2 ^ 8) scale }

@@ -3,6 +3,7 @@ ghost use Rattle.std.specs.Prelude.{◌≡◌};
 ghost use Rattle.int_transform.specs.Scan.{by_rows};
 
 // Four columns, row by row.
+#[inline]
 pub(crate) fn by_rows(a: [i32; 4], b: [i32; 4], c: [i32; 4], d: [i32; 4]) -> [i32; 16]
     ensures { result ≡ by_rows a b c d }
 {

@@ -7,7 +7,7 @@ use Rattle.bit_io.proofs.ByteLemmas.{length-bits_of}
 use Rattle.cb_types.specs.SizeMbs.{IsWithinLimits}
 use Rattle.param_sets.specs.Pps.{IsPpsOf, IsWrittenPps, pic_parameter_set_data}
 use Rattle.param_sets.specs.Sps.{IsSpsOf, IsWrittenSps, seq_parameter_set_data, size_of}
-use Rattle.param_sets.specs.Syntax.{Appends}
+use Rattle.element_tables.specs.Syntax.{Appends}
 use Rattle.param_sets.specs.declared.pps.Pps.{Pps}
 use Rattle.param_sets.specs.declared.sps.Sps.{Sps}
 

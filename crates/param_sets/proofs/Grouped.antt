@@ -1,12 +1,12 @@
 -- The tables of whole sets are those of their parts, one behind the other.
 use Rattle.std.proofs.Common.{◌≡◌, Bool, List, Result, eqb, refl, subst, sym}
-use Rattle.param_sets.specs.declared.elements.Stop.{Stop}
+use Rattle.element_tables.specs.declared.elements.Stop.{Stop}
 use Rattle.param_sets.specs.declared.pps.Pps.{Pps}
 use Rattle.param_sets.specs.declared.sps.Sps.{Sps}
 use Rattle.param_sets.specs.Parts.{frames, pps_of, references, residuals, sps_of, start}
 use Rattle.param_sets.specs.Pps.{pic_parameter_set_data}
 use Rattle.param_sets.specs.Sps.{cropping, cycle, no_cropping, no_cycle, seq_parameter_set_data}
-use Rattle.param_sets.specs.Syntax.{Appends, Gives, Made, Syntax, Takes, any, flag, present, se, u, ue, up_to, ◌>>=◌}
+use Rattle.element_tables.specs.Syntax.{Appends, Gives, Made, Syntax, Takes, any, flag, present, se, u, ue, up_to, ◌>>=◌}
 
 unfoldable pub grouped_sps : Syntax (Sps × Bool)
 grouped_sps = do

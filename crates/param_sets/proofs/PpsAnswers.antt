@@ -5,14 +5,14 @@ use Rattle.bit_io.specs.Bits.{bits_of}
 use Rattle.bit_io.specs.Trailing.{EndsHere, HasMoreData}
 use Rattle.param_sets.specs.Accepted.{IsAcceptedPps}
 use Rattle.param_sets.specs.Pps.{IsBadPps, IsPpsOf, LeavesBaseline, pic_parameter_set_data}
-use Rattle.param_sets.specs.Syntax.{Stops, Takes}
-use Rattle.param_sets.specs.declared.elements.Stop.{Stop}
-use Rattle.param_sets.specs.declared.elements.Stop.TheVariants.{Malformed, OtherProfile}
+use Rattle.element_tables.specs.Syntax.{Stops, Takes}
+use Rattle.element_tables.specs.declared.elements.Stop.{Stop}
+use Rattle.element_tables.specs.declared.elements.Stop.TheVariants.{Malformed, OtherProfile}
 use Rattle.param_sets.specs.declared.fault.SetFault.{SetFault}
 use Rattle.param_sets.specs.declared.fault.SetFault.TheVariants.{BadPps, BadSps, NotBaseline, TooLarge}
 use Rattle.param_sets.specs.declared.pps.Pps.{Pps}
 use Rattle.param_sets.proofs.PpsRanges.{pps_accepted}
-use Rattle.param_sets.proofs.Unique.{stops_same, takes_or_stops, takes_same}
+use Rattle.element_tables.proofs.Unique.{stops_same, takes_or_stops, takes_same}
 
 pub record PpsAnswer (rbsp : List ℕ) (result : Result Pps SetFault) : Type 0 where
   pub found : IfOk result (λ p. IsPpsOf rbsp p)

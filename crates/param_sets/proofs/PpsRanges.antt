@@ -4,14 +4,14 @@ use Rattle.bit_io.specs.Codewords.{IsSe}
 use Rattle.param_sets.specs.Accepted.{IsAcceptedPps}
 use Rattle.param_sets.specs.Parts.{references, residuals}
 use Rattle.param_sets.specs.Pps.{pic_parameter_set_data}
-use Rattle.param_sets.specs.Syntax.{Takes, any, between, only, only_flag, up_to}
+use Rattle.element_tables.specs.Syntax.{Takes, any, between, only, only_flag, up_to}
 use Rattle.param_sets.specs.declared.pps.Pps.{Pps}
 use Rattle.param_sets.specs.declared.pps_parts.References.{References}
 use Rattle.param_sets.specs.declared.pps_parts.Residuals.{Residuals}
 use Rattle.param_sets.proofs.Grouped.{grouped_pps, takes_pps}
-use Rattle.param_sets.proofs.OneElement.{flag_range, se_range, u_range, ue_range}
-use Rattle.param_sets.proofs.Rules.{flag_one, between_ends, only_one, up_to_most}
-use Rattle.param_sets.proofs.Tables.{made_is, takes_parts}
+use Rattle.element_tables.proofs.OneElement.{flag_range, se_range, u_range, ue_range}
+use Rattle.element_tables.proofs.Rules.{flag_one, between_ends, only_one, up_to_most}
+use Rattle.element_tables.proofs.Tables.{made_is, takes_parts}
 
 pub record InReferences (r : References) : Type 0 where
   pub pic_parameter_set_id : r.pic_parameter_set_id ≤ 255

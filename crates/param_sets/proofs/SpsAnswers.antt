@@ -6,14 +6,14 @@ use Rattle.bit_io.specs.Trailing.{EndsHere}
 use Rattle.cb_types.specs.SizeMbs.{IsWithinLimits}
 use Rattle.param_sets.specs.Accepted.{IsAcceptedSps}
 use Rattle.param_sets.specs.Sps.{IsBadSps, IsSpelledSps, IsSpsOf, IsTooLarge, LeavesBaseline, seq_parameter_set_data, size_of}
-use Rattle.param_sets.specs.Syntax.{Stops, Takes}
-use Rattle.param_sets.specs.declared.elements.Stop.{Stop}
-use Rattle.param_sets.specs.declared.elements.Stop.TheVariants.{Malformed, OtherProfile}
+use Rattle.element_tables.specs.Syntax.{Stops, Takes}
+use Rattle.element_tables.specs.declared.elements.Stop.{Stop}
+use Rattle.element_tables.specs.declared.elements.Stop.TheVariants.{Malformed, OtherProfile}
 use Rattle.param_sets.specs.declared.fault.SetFault.{SetFault}
 use Rattle.param_sets.specs.declared.fault.SetFault.TheVariants.{BadPps, BadSps, NotBaseline, TooLarge}
 use Rattle.param_sets.specs.declared.sps.Sps.{Sps}
 use Rattle.param_sets.proofs.SpsRanges.{sps_accepted}
-use Rattle.param_sets.proofs.Unique.{stops_same, takes_or_stops, takes_same}
+use Rattle.element_tables.proofs.Unique.{stops_same, takes_or_stops, takes_same}
 
 pub record SpsAnswer (rbsp : List ℕ) (result : Result Sps SetFault) : Type 0 where
   pub found : IfOk result (λ s. IsSpsOf rbsp s)

@@ -7,16 +7,16 @@ use Rattle.cb_types.specs.SizeMbs.{IsWithinLimits}
 use Rattle.param_sets.specs.Accepted.{AreOffsets, IsAcceptedSps}
 use Rattle.param_sets.specs.Parts.{crop_of, cycle_of, frames, sps_of, start}
 use Rattle.param_sets.specs.Sps.{cropping, cycle, no_cropping, no_cycle, offsets, seq_parameter_set_data, size_of}
-use Rattle.param_sets.specs.Syntax.{Takes, any, only, only_flag, present, se, times, ue, up_to}
+use Rattle.element_tables.specs.Syntax.{Takes, any, only, only_flag, present, se, times, ue, up_to}
 use Rattle.param_sets.specs.declared.sps.Sps.{Sps}
 use Rattle.param_sets.specs.declared.sps_parts.Cropping.{Cropping}
 use Rattle.param_sets.specs.declared.sps_parts.Cycle.{Cycle}
 use Rattle.param_sets.specs.declared.sps_parts.Frames.{Frames}
 use Rattle.param_sets.specs.declared.sps_parts.Start.{Start}
 use Rattle.param_sets.proofs.Grouped.{grouped_sps, takes_sps}
-use Rattle.param_sets.proofs.OneElement.{flag_range, se_range, u_range, ue_range}
-use Rattle.param_sets.proofs.Rules.{flag_one, only_one, up_to_most}
-use Rattle.param_sets.proofs.Tables.{made_is, takes_parts, takes_present}
+use Rattle.element_tables.proofs.OneElement.{flag_range, se_range, u_range, ue_range}
+use Rattle.element_tables.proofs.Rules.{flag_one, only_one, up_to_most}
+use Rattle.element_tables.proofs.Tables.{made_is, takes_parts, takes_present}
 
 pub record InStart (s : Start) : Type 0 where
   pub profile_idc : s.profile_idc ≡ 66

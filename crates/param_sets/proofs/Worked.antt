@@ -4,7 +4,7 @@ use Rattle.bit_io.specs.Bits as bits
 use Rattle.bit_io.specs.Codewords as codewords
 use Rattle.param_sets.specs.Pps.{IsPpsOf, pic_parameter_set_data}
 use Rattle.param_sets.specs.Sps.{IsSpsOf, seq_parameter_set_data}
-use Rattle.param_sets.specs.Syntax.{flag, present, se, u, ue, ◌>>=◌}
+use Rattle.element_tables.specs.Syntax.{flag, present, se, u, ue, ◌>>=◌}
 use Rattle.param_sets.specs.declared.pps.Pps.{Pps}
 use Rattle.param_sets.specs.declared.sps.Sps.{Sps}
 

@@ -2,4 +2,3 @@ pub mod Accepted
 pub mod Parts
 pub mod Pps
 pub mod Sps
-pub mod Syntax

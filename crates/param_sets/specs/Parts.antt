@@ -1,6 +1,6 @@
 -- The parts of a set, as they are read and written one behind the other.
 use Rattle.std.specs.Prelude.{ℕ, true, false, pos, negsuc}
-use Rattle.param_sets.specs.Syntax.{Syntax, Made, ◌>>=◌, u, ue, se, flag, any, up_to, between, only, only_flag}
+use Rattle.element_tables.specs.Syntax.{Syntax, Made, ◌>>=◌, u, ue, se, flag, any, up_to, between, only, only_flag}
 use Rattle.param_sets.specs.declared.pps.Pps.{Pps}
 use Rattle.param_sets.specs.declared.pps_parts.References.{References}
 use Rattle.param_sets.specs.declared.pps_parts.Residuals.{Residuals}

@@ -2,8 +2,8 @@
 use Rattle.std.specs.Prelude.{◌≡◌, ℕ, Bool, false, List, ◌++◌, length, ◌⊎◌, pos, negsuc}
 use Rattle.bit_io.specs.Bits.{bits_of}
 use Rattle.bit_io.specs.Trailing.{EndsHere, HasMoreData, trailing_bits}
-use Rattle.param_sets.specs.Syntax.{Syntax, Made, ◌>>=◌, u, ue, se, flag, any, up_to, between, only, only_flag, Spells, Stops, Takes}
-use Rattle.param_sets.specs.declared.elements.Stop.TheVariants.{Malformed, OtherProfile}
+use Rattle.element_tables.specs.Syntax.{Syntax, Made, ◌>>=◌, u, ue, se, flag, any, up_to, between, only, only_flag, Spells, Stops, Takes}
+use Rattle.element_tables.specs.declared.elements.Stop.TheVariants.{Malformed, OtherProfile}
 use Rattle.param_sets.specs.declared.pps.Pps.{Pps}
 
 -- The elements of a picture set. CABAC, slice groups, weighted prediction and redundant pictures are of other profiles.

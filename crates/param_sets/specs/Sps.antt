@@ -4,8 +4,8 @@ use Rattle.bit_io.specs.Bits.{bits_of}
 use Rattle.bit_io.specs.Trailing.{EndsHere, trailing_bits}
 use Rattle.cb_types.specs.SizeMbs.{IsWithinLimits}
 use Rattle.cb_types.specs.declared.size.SizeMbs.{SizeMbs}
-use Rattle.param_sets.specs.Syntax.{Syntax, Made, ◌>>=◌, u, ue, se, flag, present, times, any, up_to, only, only_flag, Spells, Stops, Takes}
-use Rattle.param_sets.specs.declared.elements.Stop.TheVariants.{Malformed, OtherProfile}
+use Rattle.element_tables.specs.Syntax.{Syntax, Made, ◌>>=◌, u, ue, se, flag, present, times, any, up_to, only, only_flag, Spells, Stops, Takes}
+use Rattle.element_tables.specs.declared.elements.Stop.TheVariants.{Malformed, OtherProfile}
 use Rattle.param_sets.specs.declared.sps.Sps.{Sps}
 use Rattle.param_sets.specs.declared.sps_parts.Cropping.{Cropping}
 use Rattle.param_sets.specs.declared.sps_parts.Cycle.{Cycle}

@@ -2,7 +2,6 @@
 #![tactic(auto)]
 
 mod constraints;
-mod elements;
 mod fault;
 mod pps;
 mod pps_parts;

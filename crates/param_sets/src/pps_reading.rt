@@ -4,16 +4,16 @@ ghost use Rattle.std.specs.Prelude.{◌≡◌, ◌≢◌, ◌↔◌, Err, IfOk, 
 ghost use Rattle.param_sets.specs.Accepted.{IsAcceptedPps};
 ghost use Rattle.param_sets.specs.Pps.{IsBadPps, IsPpsOf, LeavesBaseline, pic_parameter_set_data};
 ghost use Rattle.param_sets.specs.Parts.{references, residuals};
-ghost use Rattle.param_sets.specs.Syntax.{Gives};
+ghost use Rattle.element_tables.specs.Syntax.{Gives};
 
-use super::elements::{
-    Stop, read_flag, read_flag_only, read_se, read_se_between, read_u_only, read_ue_only,
-    read_ue_up_to,
-};
 use super::fault::SetFault;
 use super::pps::Pps;
 use super::pps_parts::{References, Residuals, assembled};
 use bit_io::BitReader;
+use element_tables::{
+    Stop, read_flag, read_flag_only, read_se, read_se_between, read_u_only, read_ue_only,
+    read_ue_up_to,
+};
 
 /// The picture parameter set that the payload of a NAL unit of type 8 spells.
 pub fn read_pps(rbsp: &[u8]) -> Result<Pps, SetFault>

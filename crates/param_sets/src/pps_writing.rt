@@ -4,11 +4,11 @@ ghost use Rattle.std.specs.Prelude.{◌≡◌, IfOk, OnOk};
 ghost use Rattle.param_sets.specs.Accepted.{IsAcceptedPps};
 ghost use Rattle.param_sets.specs.Pps.{IsPpsOf, IsWrittenPps};
 ghost use Rattle.param_sets.specs.Parts.{references, references_of, residuals, residuals_of};
-ghost use Rattle.param_sets.specs.Syntax.{Appends};
+ghost use Rattle.element_tables.specs.Syntax.{Appends};
 
-use super::elements::put_flag;
 use super::pps::Pps;
 use bit_io::BitWriter;
+use element_tables::put_flag;
 use std::alloc::{AllocError, Global};
 
 /// The payload of a NAL unit of type 8 that spells the set.

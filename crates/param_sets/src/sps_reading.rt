@@ -4,17 +4,17 @@ ghost use Rattle.std.specs.Prelude.{◌≡◌, ◌≢◌, ◌≤◌, ◌==◌, �
 ghost use Rattle.param_sets.specs.Accepted.{IsAcceptedSps};
 ghost use Rattle.param_sets.specs.Sps.{IsBadSps, IsSpsOf, IsTooLarge, LeavesBaseline, cropping, cycle, no_cropping, no_cycle, offsets, seq_parameter_set_data};
 ghost use Rattle.param_sets.specs.Parts.{frames, start};
-ghost use Rattle.param_sets.specs.Syntax.{Gives, any, present, ue, up_to};
+ghost use Rattle.element_tables.specs.Syntax.{Gives, any, present, ue, up_to};
 
 use super::constraints::Constraints;
-use super::elements::{
-    Stop, read_byte, read_flag, read_flag_only, read_se, read_u, read_u_only, read_ue,
-    read_ue_up_to,
-};
 use super::fault::SetFault;
 use super::sps::{MAX_CYCLE, Sps};
 use super::sps_parts::{Cropping, Cycle, Frames, Start, assembled};
 use bit_io::BitReader;
+use element_tables::{
+    Stop, read_byte, read_flag, read_flag_only, read_se, read_u, read_u_only, read_ue,
+    read_ue_up_to,
+};
 
 /// The sequence parameter set that the payload of a NAL unit of type 7 spells. A VUI isn't read, and so
 /// nothing behind it is.

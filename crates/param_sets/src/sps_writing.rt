@@ -4,11 +4,11 @@ ghost use Rattle.std.specs.Prelude.{◌==◌, IfOk, OnOk, false};
 ghost use Rattle.param_sets.specs.Accepted.{AreOffsets, IsAcceptedSps};
 ghost use Rattle.param_sets.specs.Sps.{IsSpsOf, IsWrittenSps, cropping, cycle, no_cropping, no_cycle, offsets, seq_parameter_set_data};
 ghost use Rattle.param_sets.specs.Parts.{crop_of, cycle_of, frames, frames_of, start, start_of};
-ghost use Rattle.param_sets.specs.Syntax.{Appends, present, ue, up_to};
+ghost use Rattle.element_tables.specs.Syntax.{Appends, present, ue, up_to};
 
-use super::elements::put_flag;
 use super::sps::Sps;
 use bit_io::BitWriter;
+use element_tables::put_flag;
 use std::alloc::{AllocError, Global};
 
 /// The payload of a NAL unit of type 7 that spells the set, without a VUI.

@@ -1,6 +1,6 @@
 use Rattle.std.proofs.lemmas.Result.{err_from_is_err_and}
 use Rattle.param_sets.proofs.Grouped.{grouped_pps, gives_pps}
-use Rattle.param_sets.proofs.Tables.{gives_made, gives_stop, gives_then}
+use Rattle.element_tables.proofs.Tables.{gives_made, gives_stop, gives_then}
 use Rattle.param_sets.proofs.pps_reading.read_picture.Goals as goal
 
 pub returns-in_err-references : goal.returns-in_err-references

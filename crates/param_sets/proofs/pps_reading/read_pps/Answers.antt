@@ -1,5 +1,5 @@
 use Rattle.std.proofs.Common.{inl, inr}
-use Rattle.param_sets.specs.declared.elements.Stop.TheVariants.{Malformed, OtherProfile}
+use Rattle.element_tables.specs.declared.elements.Stop.TheVariants.{Malformed, OtherProfile}
 use Rattle.param_sets.proofs.PpsAnswers.{bad_answer, profile_answer, read_when, set_answer, stops_when}
 use Rattle.param_sets.proofs.SpsAnswers.{not_from}
 use Rattle.param_sets.proofs.pps_reading.read_pps.Goals as goal

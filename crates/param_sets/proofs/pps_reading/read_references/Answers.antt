@@ -1,6 +1,6 @@
 use Rattle.std.proofs.lemmas.Result.{err_from_is_err_and}
 use Rattle.param_sets.specs.Parts.{references}
-use Rattle.param_sets.proofs.Tables.{gives_made, gives_stop, gives_then}
+use Rattle.element_tables.proofs.Tables.{gives_made, gives_stop, gives_then}
 use Rattle.param_sets.proofs.pps_reading.read_references.Goals as goal
 
 pub returns-in_err-pic_parameter_set_id : goal.returns-in_err-pic_parameter_set_id

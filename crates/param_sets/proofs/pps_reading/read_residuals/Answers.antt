@@ -1,7 +1,7 @@
 use Rattle.std.proofs.Common.{SFits, rules, to_z-of_z, w32}
 use Rattle.std.proofs.lemmas.Result.{err_from_is_err_and}
 use Rattle.param_sets.specs.Parts.{residuals}
-use Rattle.param_sets.proofs.Tables.{gives_made, gives_stop, gives_then}
+use Rattle.element_tables.proofs.Tables.{gives_made, gives_stop, gives_then}
 use Rattle.param_sets.proofs.pps_reading.read_residuals.Goals as goal
 
 pub returns-in_err-weighted_pred_flag : goal.returns-in_err-weighted_pred_flag

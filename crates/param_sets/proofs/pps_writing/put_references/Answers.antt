@@ -1,9 +1,9 @@
 use Rattle.std.proofs.Common.{arith, false, refl}
 use Rattle.std.proofs.lemmas.Result.{on_ok_weaker}
 use Rattle.param_sets.specs.Parts.{references}
-use Rattle.param_sets.proofs.OneElement.{flag_appended, ue_appended}
-use Rattle.param_sets.proofs.Rules.{flag_is, only_is, up_to_is}
-use Rattle.param_sets.proofs.Tables.{appends_made, appends_then}
+use Rattle.element_tables.proofs.OneElement.{flag_appended, ue_appended}
+use Rattle.element_tables.proofs.Rules.{flag_is, only_is, up_to_is}
+use Rattle.element_tables.proofs.Tables.{appends_made, appends_then}
 use Rattle.param_sets.proofs.pps_writing.put_references.Goals as goal
 
 pub returns : goal.returns

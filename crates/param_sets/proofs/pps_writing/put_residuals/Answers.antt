@@ -2,9 +2,9 @@ use Rattle.std.proofs.Common.{SFits, arith, false, refl, rules, to_z-of_z, w32}
 use Rattle.std.proofs.lemmas.Int.{ints}
 use Rattle.std.proofs.lemmas.Result.{on_ok_weaker}
 use Rattle.param_sets.specs.Parts.{residuals}
-use Rattle.param_sets.proofs.OneElement.{flag_appended, se_appended, u_appended}
-use Rattle.param_sets.proofs.Rules.{between_fits, flag_is, only_is}
-use Rattle.param_sets.proofs.Tables.{appends_made, appends_then}
+use Rattle.element_tables.proofs.OneElement.{flag_appended, se_appended, u_appended}
+use Rattle.element_tables.proofs.Rules.{between_fits, flag_is, only_is}
+use Rattle.element_tables.proofs.Tables.{appends_made, appends_then}
 use Rattle.param_sets.proofs.pps_writing.put_residuals.Goals as goal
 
 pub returns : goal.returns

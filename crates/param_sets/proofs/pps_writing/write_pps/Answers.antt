@@ -1,9 +1,9 @@
 use Rattle.std.proofs.Common.{List, subst, sym, ℕ, ◌≡◌}
 use Rattle.std.proofs.lemmas.Result.{IfOk-weaker}
 use Rattle.param_sets.specs.Pps.{IsPpsOf, IsWrittenPps, pic_parameter_set_data}
-use Rattle.param_sets.specs.Syntax.{Appends}
+use Rattle.element_tables.specs.Syntax.{Appends}
 use Rattle.param_sets.proofs.Grouped.{appends_pps, grouped_pps}
-use Rattle.param_sets.proofs.Tables.{appends_made, appends_then}
+use Rattle.element_tables.proofs.Tables.{appends_made, appends_then}
 use Rattle.param_sets.proofs.Finished.{pps_finished, pps_reads_back}
 use Rattle.param_sets.proofs.pps_writing.write_pps.Goals as goal
 

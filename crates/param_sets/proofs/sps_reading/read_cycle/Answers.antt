@@ -1,5 +1,5 @@
 use Rattle.param_sets.specs.Sps.{cycle, no_cycle}
-use Rattle.param_sets.proofs.Tables.{gives_absent, gives_present}
+use Rattle.element_tables.proofs.Tables.{gives_absent, gives_present}
 use Rattle.param_sets.proofs.sps_reading.read_cycle.Goals as goal
 
 pub returns-then-not-is_present : goal.returns-then-not-is_present

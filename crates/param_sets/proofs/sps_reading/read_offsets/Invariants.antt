@@ -1,5 +1,5 @@
 use Rattle.std.proofs.Common.{◌≡◌, ◌-◌, drop, pos, replicate, take}
-use Rattle.param_sets.specs.Syntax.{Takes, any, se, times}
+use Rattle.element_tables.specs.Syntax.{Takes, any, se, times}
 use Rattle.param_sets.proofs.sps_reading.read_offsets.Given as goal
 
 abbrev pub invariant-loop-i : goal.invariant-loop-i

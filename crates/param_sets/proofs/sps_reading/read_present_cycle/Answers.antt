@@ -1,10 +1,10 @@
-use Rattle.param_sets.specs.Syntax.{up_to}
-use Rattle.param_sets.proofs.OneElement.{ue_range}
-use Rattle.param_sets.proofs.Rules.{up_to_most}
+use Rattle.element_tables.specs.Syntax.{up_to}
+use Rattle.element_tables.proofs.OneElement.{ue_range}
+use Rattle.element_tables.proofs.Rules.{up_to_most}
 use Rattle.std.proofs.Common.{SFits, rules, to_z-of_z, w32}
 use Rattle.std.proofs.lemmas.Result.{err_from_is_err_and}
 use Rattle.param_sets.specs.Sps.{cycle}
-use Rattle.param_sets.proofs.Tables.{gives_made, gives_stop, gives_then}
+use Rattle.element_tables.proofs.Tables.{gives_made, gives_stop, gives_then}
 use Rattle.param_sets.proofs.sps_reading.read_present_cycle.Goals as goal
 
 pub returns-in_err-delta_pic_order_always_zero_flag : goal.returns-in_err-delta_pic_order_always_zero_flag

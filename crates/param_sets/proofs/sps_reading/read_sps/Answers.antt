@@ -2,7 +2,7 @@ use Rattle.std.proofs.Common.{inl, inr, subst, true, ◌≡◌, ◌⊎◌}
 use Rattle.bit_io.specs.Trailing.{EndsHere}
 use Rattle.cb_types.specs.SizeMbs.{IsWithinLimits}
 use Rattle.cb_types.specs.declared.size.SizeMbs.{SizeMbs}
-use Rattle.param_sets.specs.declared.elements.Stop.TheVariants.{Malformed, OtherProfile}
+use Rattle.element_tables.specs.declared.elements.Stop.TheVariants.{Malformed, OtherProfile}
 use Rattle.param_sets.proofs.SpsRanges.{size_fits}
 use Rattle.param_sets.proofs.SpsAnswers.{bad_answer, bad_when, large_answer, not_from, profile_answer, set_answer, spelled_when, stops_when}
 use Rattle.param_sets.proofs.sps_reading.read_sps.Goals as goal

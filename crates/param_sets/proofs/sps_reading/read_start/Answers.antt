@@ -1,6 +1,6 @@
 use Rattle.std.proofs.lemmas.Result.{err_from_is_err_and}
 use Rattle.param_sets.specs.Parts.{start}
-use Rattle.param_sets.proofs.Tables.{gives_made, gives_stop, gives_then}
+use Rattle.element_tables.proofs.Tables.{gives_made, gives_stop, gives_then}
 use Rattle.param_sets.proofs.sps_reading.read_start.Goals as goal
 
 pub returns-in_err-profile_idc : goal.returns-in_err-profile_idc

@@ -2,10 +2,10 @@ use Rattle.std.proofs.Common.{subst, sym}
 use Rattle.std.proofs.lemmas.Result.{on_ok_weaker}
 use Rattle.param_sets.specs.Sps.{cropping, no_cropping}
 use Rattle.param_sets.specs.Parts.{crop_of}
-use Rattle.param_sets.specs.Syntax.{Appends, present}
+use Rattle.element_tables.specs.Syntax.{Appends, present}
 use Rattle.param_sets.specs.declared.sps_parts.Cropping.{Cropping}
 use Rattle.param_sets.proofs.SpsRanges.{crop_is_absent}
-use Rattle.param_sets.proofs.Tables.{appends_absent, appends_present}
+use Rattle.element_tables.proofs.Tables.{appends_absent, appends_present}
 use Rattle.param_sets.proofs.sps_writing.put_cropping.Goals as goal
 
 pub returns-then-not-sps : goal.returns-then-not-sps

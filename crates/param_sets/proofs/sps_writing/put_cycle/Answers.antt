@@ -2,10 +2,10 @@ use Rattle.std.proofs.Common.{eq-eqb, eqb, ne_eqb, subst, sym}
 use Rattle.std.proofs.lemmas.Result.{on_ok_weaker}
 use Rattle.param_sets.specs.Parts.{cycle_of}
 use Rattle.param_sets.specs.Sps.{cycle, no_cycle}
-use Rattle.param_sets.specs.Syntax.{Appends, present}
+use Rattle.element_tables.specs.Syntax.{Appends, present}
 use Rattle.param_sets.specs.declared.sps_parts.Cycle.{Cycle}
 use Rattle.param_sets.proofs.SpsRanges.{cycle_is_absent}
-use Rattle.param_sets.proofs.Tables.{appends_absent, appends_present}
+use Rattle.element_tables.proofs.Tables.{appends_absent, appends_present}
 use Rattle.param_sets.proofs.sps_writing.put_cycle.Goals as goal
 
 pub returns-then-sps-ne1 : goal.returns-then-sps-ne1

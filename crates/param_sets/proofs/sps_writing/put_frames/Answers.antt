@@ -1,9 +1,9 @@
 use Rattle.std.proofs.Common.{arith, refl, true}
 use Rattle.std.proofs.lemmas.Result.{on_ok_weaker}
 use Rattle.param_sets.specs.Parts.{frames}
-use Rattle.param_sets.proofs.OneElement.{flag_appended, ue_appended}
-use Rattle.param_sets.proofs.Rules.{flag_is, up_to_is}
-use Rattle.param_sets.proofs.Tables.{appends_made, appends_then}
+use Rattle.element_tables.proofs.OneElement.{flag_appended, ue_appended}
+use Rattle.element_tables.proofs.Rules.{flag_is, up_to_is}
+use Rattle.element_tables.proofs.Tables.{appends_made, appends_then}
 use Rattle.param_sets.proofs.sps_writing.put_frames.Goals as goal
 
 pub returns : goal.returns

@@ -1,9 +1,9 @@
 use Rattle.std.proofs.Common.{arith, eq-eqb, eqb, ne_eqb, subst, sym, ℕ}
 use Rattle.std.proofs.lemmas.Result.{on_ok_weaker}
-use Rattle.param_sets.specs.Syntax.{Appends, present, ue, up_to}
-use Rattle.param_sets.proofs.OneElement.{ue_appended}
-use Rattle.param_sets.proofs.Rules.{up_to_is}
-use Rattle.param_sets.proofs.Tables.{appends_absent, appends_present}
+use Rattle.element_tables.specs.Syntax.{Appends, present, ue, up_to}
+use Rattle.element_tables.proofs.OneElement.{ue_appended}
+use Rattle.element_tables.proofs.Rules.{up_to_is}
+use Rattle.element_tables.proofs.Tables.{appends_absent, appends_present}
 use Rattle.param_sets.proofs.sps_writing.put_lsb_length.Goals as goal
 
 pub returns-then-sps-ne0 : goal.returns-then-sps-ne0

@@ -2,10 +2,10 @@ use Rattle.std.proofs.Common.{arith, get_or, length, pos, refl, sym, take, to_z-
 use Rattle.std.proofs.lemmas.List.{length-take-le, take_more}
 use Rattle.std.proofs.lemmas.List.Elements.{All-get_or}
 use Rattle.bit_io.specs.Codewords.{IsSe}
-use Rattle.param_sets.specs.Syntax.{any}
-use Rattle.param_sets.proofs.OneElement.{se_appended}
+use Rattle.element_tables.specs.Syntax.{any}
+use Rattle.element_tables.proofs.OneElement.{se_appended}
 use Rattle.param_sets.proofs.Repeats.{appends_more, appends_none, offsets_appended, take_take}
-use Rattle.param_sets.proofs.Rules.{se_fits}
+use Rattle.element_tables.proofs.Rules.{se_fits}
 use Rattle.param_sets.proofs.sps_writing.put_offsets.Goals as goal
 
 pub slice_bounds-offset-items-end : goal.slice_bounds-offset-items-end

@@ -1,5 +1,5 @@
 use Rattle.std.proofs.Common.{take}
-use Rattle.param_sets.specs.Syntax.{Appends, any, se, times}
+use Rattle.element_tables.specs.Syntax.{Appends, any, se, times}
 use Rattle.param_sets.proofs.sps_writing.put_offsets.Given as goal
 
 abbrev pub invariant-loop-offset : goal.invariant-loop-offset

@@ -1,8 +1,8 @@
 use Rattle.std.proofs.Common.{refl}
 use Rattle.std.proofs.lemmas.Result.{on_ok_weaker}
 use Rattle.param_sets.specs.Sps.{cropping}
-use Rattle.param_sets.proofs.OneElement.{ue_appended}
-use Rattle.param_sets.proofs.Tables.{appends_made, appends_then}
+use Rattle.element_tables.proofs.OneElement.{ue_appended}
+use Rattle.element_tables.proofs.Tables.{appends_made, appends_then}
 use Rattle.param_sets.proofs.sps_writing.put_present_cropping.Goals as goal
 
 pub returns : goal.returns

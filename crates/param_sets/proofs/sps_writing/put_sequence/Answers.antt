@@ -1,8 +1,8 @@
 use Rattle.std.proofs.Common.{false, refl}
 use Rattle.std.proofs.lemmas.Result.{on_ok_weaker}
 use Rattle.param_sets.proofs.Grouped.{appends_sps, grouped_sps}
-use Rattle.param_sets.proofs.OneElement.{flag_appended}
-use Rattle.param_sets.proofs.Tables.{appends_made, appends_then}
+use Rattle.element_tables.proofs.OneElement.{flag_appended}
+use Rattle.element_tables.proofs.Tables.{appends_made, appends_then}
 use Rattle.param_sets.proofs.sps_writing.put_sequence.Goals as goal
 
 pub returns : goal.returns

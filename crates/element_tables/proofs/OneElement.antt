@@ -6,9 +6,9 @@ use Rattle.bit_io.specs.Bits as bits
 use Rattle.bit_io.specs.Codewords as codewords
 use Rattle.bit_io.specs.Codewords.{IsU, IsUe, IsSe}
 use Rattle.bit_io.specs.Reads.{Reads}
-use Rattle.param_sets.specs.declared.elements.Stop.{Stop}
-use Rattle.param_sets.specs.declared.elements.Stop.TheVariants.{Malformed}
-use Rattle.param_sets.specs.Syntax.{Appends, BeginsWith, Gives, IsRefused, Rule, Spells, any, flag, se, u, ue}
+use Rattle.element_tables.specs.declared.elements.Stop.{Stop}
+use Rattle.element_tables.specs.declared.elements.Stop.TheVariants.{Malformed}
+use Rattle.element_tables.specs.Syntax.{Appends, BeginsWith, Gives, IsRefused, Rule, Spells, any, flag, se, u, ue}
 
 -- an element alone is its codeword
 abbrev Alone : {V W : Type 0} → (V → W) → W → V → List Bool → Type 0

@@ -1,8 +1,8 @@
-//! Syntax elements of parameter sets, each with the test of its value.
+//! Syntax elements, each with the test of its value.
 
 ghost use Rattle.std.specs.Prelude.{◌≡◌, ◌≤◌, ◌++◌, OnOk, if◌then◌else◌};
 ghost use Rattle.bit_io.specs.Bits as bits;
-ghost use Rattle.param_sets.specs.Syntax.{Gives, any, between, flag, only, only_flag, se, u, ue, up_to};
+ghost use Rattle.element_tables.specs.Syntax.{Gives, any, between, flag, only, only_flag, se, u, ue, up_to};
 
 use bit_io::{BitReader, BitWriter};
 use std::alloc::AllocError;

@@ -6,8 +6,8 @@ use Rattle.bit_io.specs.Codewords as codewords
 use Rattle.bit_io.specs.Codewords.{IsU, IsUe, IsSe}
 use Rattle.bit_io.specs.Reads.{IsPrefixFree}
 use Rattle.bit_io.proofs.LawLemmas.{se_prefix_free, u_prefix_free, ue_prefix_free}
-use Rattle.param_sets.specs.declared.elements.Stop.{Stop}
-use Rattle.param_sets.specs.Syntax.{BeginsWith, IsRefused, Made, Rule, Se, Spells, Stops, Syntax, Takes, U, Ue}
+use Rattle.element_tables.specs.declared.elements.Stop.{Stop}
+use Rattle.element_tables.specs.Syntax.{BeginsWith, IsRefused, Made, Rule, Se, Spells, Stops, Syntax, Takes, U, Ue}
 
 same_word : {V : Type 0} (IsValue : V → Type 0) (code : V → List Bool) → IsPrefixFree IsValue code → (v w : V) (xs ys rest_v rest_w p q : List Bool)
     → IsValue v → IsValue w → xs ≡ code v ++ rest_v → ys ≡ code w ++ rest_w → xs ++ p ≡ ys ++ q → (v ≡ w) × (rest_v ++ p ≡ rest_w ++ q)

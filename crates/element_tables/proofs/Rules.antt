@@ -5,9 +5,9 @@ use Rattle.std.proofs.Common.{SFits, rules, w32}
 use Rattle.bit_io.specs.Codewords.{IsSe}
 use Rattle.std.specs.Int.Signed.{le_z_yes}
 use Rattle.std.specs.Prelude.{T, int_le}
-use Rattle.param_sets.specs.declared.elements.Stop.{Stop}
-use Rattle.param_sets.specs.declared.elements.Stop.TheVariants.{Malformed, OtherProfile}
-use Rattle.param_sets.specs.Syntax.{between, only, only_flag, up_to}
+use Rattle.element_tables.specs.declared.elements.Stop.{Stop}
+use Rattle.element_tables.specs.declared.elements.Stop.TheVariants.{Malformed, OtherProfile}
+use Rattle.element_tables.specs.Syntax.{between, only, only_flag, up_to}
 
 pub only_is : (v wanted : ℕ) → v ≡ wanted → only wanted v ≡ None
 only_is v wanted e = rw (eq-eqb v wanted e) refl

@@ -1,7 +1,7 @@
 use Rattle.std.proofs.lemmas.Result.{err_from_is_err_and}
-use Rattle.param_sets.specs.Syntax.{any}
-use Rattle.param_sets.proofs.OneElement.{flag_given, flag_unread}
-use Rattle.param_sets.proofs.elements.read_flag.Goals as goal
+use Rattle.element_tables.specs.Syntax.{any}
+use Rattle.element_tables.proofs.OneElement.{flag_given, flag_unread}
+use Rattle.element_tables.proofs.elements.read_flag.Goals as goal
 
 pub returns-in_err-bit : goal.returns-in_err-bit
 returns-in_err-bit c =

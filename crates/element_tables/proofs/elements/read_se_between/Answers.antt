@@ -1,10 +1,10 @@
 use Rattle.std.proofs.Common.{SFits, rules, to_z-of_z, w32}
 use Rattle.std.proofs.lemmas.Result.{err_from_is_err_and}
-use Rattle.param_sets.specs.Syntax.{between}
-use Rattle.param_sets.proofs.OneElement.{se_accepted, se_refused, se_stopped}
-use Rattle.param_sets.proofs.Rules.{between_above, between_below, between_is}
-use Rattle.param_sets.proofs.elements.read_se_between.Goals as goal
-use Rattle.param_sets.proofs.elements.read_se_between.Goals.{else-least-value-via-then-least-value+else-value-greatest, else-least-value-via-else-least-value}
+use Rattle.element_tables.specs.Syntax.{between}
+use Rattle.element_tables.proofs.OneElement.{se_accepted, se_refused, se_stopped}
+use Rattle.element_tables.proofs.Rules.{between_above, between_below, between_is}
+use Rattle.element_tables.proofs.elements.read_se_between.Goals as goal
+use Rattle.element_tables.proofs.elements.read_se_between.Goals.{else-least-value-via-then-least-value+else-value-greatest, else-least-value-via-else-least-value}
 
 pub returns-in_err-value : goal.returns-in_err-value
 returns-in_err-value c =

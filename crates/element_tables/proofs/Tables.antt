@@ -4,8 +4,8 @@ use Rattle.std.proofs.lemmas.List.{append-nil}
 use Rattle.bit_io.specs.Bits as bits
 use Rattle.bit_io.specs.Codewords as codewords
 use Rattle.bit_io.specs.Codewords.{IsU, IsUe, IsSe}
-use Rattle.param_sets.specs.declared.elements.Stop.{Stop}
-use Rattle.param_sets.specs.Syntax.{Appends, BeginsWith, Gives, Takes, Made, present, Rule, Se, Spells, Stops, Syntax, U, Ue, ◌>>=◌}
+use Rattle.element_tables.specs.declared.elements.Stop.{Stop}
+use Rattle.element_tables.specs.Syntax.{Appends, BeginsWith, Gives, Takes, Made, present, Rule, Se, Spells, Stops, Syntax, U, Ue, ◌>>=◌}
 
 behind : {V : Type 0} (IsValue : V → Type 0) (code : V → List Bool) (rule : Rule V) (K L : V → List Bool → Type 0) (xs ys : List Bool)
     → ((v : V) (rest : List Bool) → K v rest → L v (rest ++ ys)) → BeginsWith IsValue code rule K xs → BeginsWith IsValue code rule L (xs ++ ys)

@@ -1,8 +1,8 @@
 use Rattle.std.proofs.lemmas.Result.{err_from_is_err_and}
-use Rattle.param_sets.specs.Syntax.{only_flag}
-use Rattle.param_sets.proofs.OneElement.{flag_accepted, flag_refused, flag_stopped}
-use Rattle.param_sets.proofs.Rules.{beq_apart, beq_same, flag_is, flag_other}
-use Rattle.param_sets.proofs.elements.read_flag_only.Goals as goal
+use Rattle.element_tables.specs.Syntax.{only_flag}
+use Rattle.element_tables.proofs.OneElement.{flag_accepted, flag_refused, flag_stopped}
+use Rattle.element_tables.proofs.Rules.{beq_apart, beq_same, flag_is, flag_other}
+use Rattle.element_tables.proofs.elements.read_flag_only.Goals as goal
 
 pub returns-in_err-value : goal.returns-in_err-value
 returns-in_err-value c =

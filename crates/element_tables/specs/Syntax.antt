@@ -5,8 +5,8 @@ use Rattle.bit_io.specs.Bits as bits
 use Rattle.bit_io.specs.Codewords as codewords
 use Rattle.bit_io.specs.Codewords.{IsU, IsUe, IsSe}
 use Rattle.bit_io.specs.Reads.{BeginsNone}
-use Rattle.param_sets.specs.declared.elements.Stop.{Stop}
-use Rattle.param_sets.specs.declared.elements.Stop.TheVariants.{Malformed, OtherProfile}
+use Rattle.element_tables.specs.declared.elements.Stop.{Stop}
+use Rattle.element_tables.specs.declared.elements.Stop.TheVariants.{Malformed, OtherProfile}
 
 -- why a value isn't accepted, if it isn't
 abbrev pub Rule : Type 0 → Type 0

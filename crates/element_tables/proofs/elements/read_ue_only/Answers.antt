@@ -1,8 +1,8 @@
 use Rattle.std.proofs.lemmas.Result.{err_from_is_err_and}
-use Rattle.param_sets.specs.Syntax.{only}
-use Rattle.param_sets.proofs.OneElement.{ue_accepted, ue_refused, ue_stopped}
-use Rattle.param_sets.proofs.Rules.{only_is, only_other}
-use Rattle.param_sets.proofs.elements.read_ue_only.Goals as goal
+use Rattle.element_tables.specs.Syntax.{only}
+use Rattle.element_tables.proofs.OneElement.{ue_accepted, ue_refused, ue_stopped}
+use Rattle.element_tables.proofs.Rules.{only_is, only_other}
+use Rattle.element_tables.proofs.elements.read_ue_only.Goals as goal
 
 pub returns-in_err-value : goal.returns-in_err-value
 returns-in_err-value c =

@@ -1,6 +1,6 @@
 //! Syntax elements, each with the test of its value.
 
-ghost use Rattle.std.specs.Prelude.{◌≡◌, ◌≤◌, ◌++◌, OnOk, if◌then◌else◌};
+ghost use Rattle.std.specs.Prelude.{◌≡◌, ◌≤◌, ◌++◌, OnErr, OnOk, if◌then◌else◌};
 ghost use Rattle.bit_io.specs.Bits as bits;
 ghost use Rattle.element_tables.specs.Syntax.{Gives, any, between, flag, only, only_flag, se, u, ue, up_to};
 
@@ -119,7 +119,8 @@ pub fn read_se_between(reader: &mut BitReader, least: i32, greatest: i32) -> Res
 
 /// Writes a flag.
 pub fn put_flag(out: &mut BitWriter, value: bool) -> Result<(), AllocError>
-    ensures { OnOk result (out.new ≡ out.old ++ bits.u (if value then 1 else 0) 1) }
+    ensures ok { OnOk result (out.new ≡ out.old ++ bits.u (if value then 1 else 0) 1) }
+    ensures err { OnErr result (out.new ≡ out.old) }
 {
     out.put_u(u32::from(value), 1)
 }

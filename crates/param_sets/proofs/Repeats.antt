@@ -1,11 +1,11 @@
 -- The offsets.
-use Rattle.std.proofs.Common.{◌≡◌, ℕ, zero, suc, ◌+◌, ◌-◌, ◌<◌, ℤ, pos, Bool, List, [], ◌∷◌, ◌++◌, length, take, drop, replicate, set, Ok, Err, refl, sym, ap, subst, ◌∙◌, append_assoc, arith}
+use Rattle.std.proofs.Common.{◌≡◌, ℕ, suc, ◌+◌, ◌-◌, ◌<◌, ℤ, pos, Bool, List, [], ◌∷◌, ◌++◌, length, take, drop, replicate, set, Ok, Err, refl, sym, ap, subst, ◌∙◌, append_assoc, arith}
 use Rattle.std.proofs.lemmas.List.{append-nil, drop-drop, drop-replicate, drop-set-lt, length-drop, length-replicate, length-take, take-append-drop, take_all}
 use Rattle.element_tables.specs.declared.elements.Stop.{Stop}
 use Rattle.param_sets.specs.Sps.{offsets}
-use Rattle.element_tables.specs.Syntax.{Appends, Gives, Takes, Made, Spells, Stops, Syntax, any, se, times, ◌>>=◌}
+use Rattle.element_tables.specs.Syntax.{Appends, Gives, Takes, Stops, Syntax, any, se, times}
 use Rattle.element_tables.proofs.Repeats.{spells_more, stops_behind}
-use Rattle.element_tables.proofs.Tables.{appends_made, appends_then, gives_made, gives_then, gives_stop, spells_parts, spells_then, stops_first, stops_later}
+use Rattle.element_tables.proofs.Tables.{appends_made, appends_then, gives_made, gives_then, gives_stop}
 
 -- ---- reading
 

@@ -1,5 +1,12 @@
-// Tests of the crates that hold and exchange samples.
+// Tests of the crates that hold, exchange, transform and predict samples.
 #![tactic(auto)]
+
+#[cfg(test)]
+mod inter;
+#[cfg(test)]
+mod intra;
+#[cfg(test)]
+mod transforms;
 
 #[cfg(test)]
 mod tests {

@@ -4,4 +4,14 @@
 #[cfg(test)]
 mod bits;
 #[cfg(test)]
+mod blocks;
+#[cfg(test)]
 mod byte_stream;
+#[cfg(test)]
+mod headers;
+#[cfg(test)]
+mod lists;
+#[cfg(test)]
+mod pictures;
+#[cfg(test)]
+mod sets;

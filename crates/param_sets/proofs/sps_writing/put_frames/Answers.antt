@@ -11,10 +11,10 @@ unfolding frames
 returns c =
     on_ok_weaker c.put_flag-4.result
     (λ e. appends_then _ (ue_appended _ c.args.sps.now.max_num_ref_frames _ _ (omega (arith, c.requires.max_num_ref_frames)) (up_to_is c.args.sps.now.max_num_ref_frames 16 c.requires.max_num_ref_frames) c.in_ok-put_ue.ensures.ok)
-    (appends_then _ (flag_appended _ c.args.sps.now.gaps_in_frame_num_value_allowed_flag _ _ refl c.in_ok-put_flag.ensures)
+    (appends_then _ (flag_appended _ c.args.sps.now.gaps_in_frame_num_value_allowed_flag _ _ refl c.in_ok-put_flag.ensures.ok)
     (appends_then _ (ue_appended _ c.args.sps.now.pic_width_in_mbs_minus1 _ _ (omega (arith, c.requires.size.columns)) refl c.in_ok-put_ue-2.ensures.ok)
     (appends_then _ (ue_appended _ c.args.sps.now.pic_height_in_map_units_minus1 _ _ (omega (arith, c.requires.size.rows)) refl c.in_ok-put_ue-3.ensures.ok)
-    (appends_then _ (flag_appended _ c.args.sps.now.frame_mbs_only_flag _ _ (flag_is true c.args.sps.now.frame_mbs_only_flag c.requires.frame_mbs_only_flag) c.in_ok-put_flag-2.ensures)
-    (appends_then _ (flag_appended _ c.args.sps.now.direct_8x8_inference_flag _ _ refl c.in_ok-put_flag-3.ensures)
+    (appends_then _ (flag_appended _ c.args.sps.now.frame_mbs_only_flag _ _ (flag_is true c.args.sps.now.frame_mbs_only_flag c.requires.frame_mbs_only_flag) c.in_ok-put_flag-2.ensures.ok)
+    (appends_then _ (flag_appended _ c.args.sps.now.direct_8x8_inference_flag _ _ refl c.in_ok-put_flag-3.ensures.ok)
     (appends_then _ (flag_appended _ c.args.sps.now.frame_cropping_flag _ _ refl e)
-    (appends_made _ _)))))))) c.put_flag-4.ensures
+    (appends_made _ _)))))))) c.put_flag-4.ensures.ok

@@ -11,4 +11,4 @@ returns c = on_ok_weaker c.put_flag.result
     (λ e. appends_sps _ _ _ (appends_then _ c.in_ok-put_start.ensures (appends_then _ c.in_ok-put_lsb_length.ensures (appends_then _ c.in_ok-put_cycle.ensures
     (appends_then _ c.in_ok-put_frames.ensures (appends_then _ c.in_ok-put_cropping.ensures
     (appends_then _ (flag_appended _ false _ _ refl e) (appends_made _ _))))))))
-    c.put_flag.ensures
+    c.put_flag.ensures.ok

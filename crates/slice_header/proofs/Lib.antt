@@ -1,0 +1,17 @@
+pub mod Absent
+pub mod Actives
+pub mod Choices
+pub mod Deltas
+pub mod Found
+pub mod InfoRanges
+pub mod ListRanges
+pub mod Numbered
+pub mod NumberedWritten
+pub mod Padding
+pub mod PartRanges
+pub mod Quantizer
+pub mod Repeated
+pub mod Signed
+pub mod Wholes
+pub mod WholesWritten
+pub mod Written

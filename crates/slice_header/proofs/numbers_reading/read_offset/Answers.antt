@@ -1,0 +1,10 @@
+use Rattle.std.proofs.Common.{pos, negsuc}
+use Rattle.element_tables.specs.Syntax.{between, se}
+use Rattle.element_tables.proofs.Tables.{gives_absent, gives_present}
+use Rattle.slice_header.proofs.numbers_reading.read_offset.Goals as goal
+
+pub returns-then-not-is_present : goal.returns-then-not-is_present
+returns-then-not-is_present c = (gives_absent (se (between (negsuc 5) (pos 6))) (pos 0) c.args.is_present c.args.reader.now c.if-not-is_present.true)
+
+pub returns : goal.returns
+returns c = gives_present (se (between (negsuc 5) (pos 6))) (pos 0) c.args.is_present c.args.reader.now c.read_se_between.new.reader c.read_se_between.result c.if-not-is_present.false c.read_se_between.ensures

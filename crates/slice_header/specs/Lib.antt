@@ -1,0 +1,6 @@
+pub mod AcceptedSlices
+pub mod Conditions
+pub mod Headers
+pub mod Lists
+pub mod Parts
+pub mod Spelling

@@ -70,14 +70,14 @@ found_header head info whole header rest ranges h =
       refl,
     )
 
--- what a read finds where a header is spelled
-back : (info : PictureInfo) (header : Header) (written rest : List Bool) (found : Option Header) (left : List Bool) → Takes (slice_header header.head info) (written ++ rest) header rest
-    → ReadsHeader header.head info (written ++ rest) found left → (found ≡ Some header) × (left ≡ rest)
-back info header written rest (Some other) left mine theirs =
-    let same = takes_same (slice_header header.head info) (written ++ rest) left rest other header theirs mine in
+-- where a header begins the bits, a read finds it
+pub found_once : (head : UnitHead) (info : PictureInfo) (whole : List Bool) (header : Header) (rest : List Bool) (found : Option Header) (left : List Bool) → Takes (slice_header head info) whole header rest
+    → ReadsHeader head info whole found left → (found ≡ Some header) × (left ≡ rest)
+found_once head info whole header rest (Some other) left mine theirs =
+    let same = takes_same (slice_header head info) whole left rest other header theirs mine in
     (ap Some same.0, same.1)
-back info header written rest None left mine theirs = absurd (theirs.1 header rest mine)
+found_once head info whole header rest None left mine theirs = absurd (theirs.1 header rest mine)
 
 pub reads_back : (info : PictureInfo) (header : Header) (old new : List Bool) → Appends (slice_header header.head info) header old new → AddsReadable info header old new
 reads_back info header old new h =
-    (h.added, h.parts, λ rest found left read. back info header h.added rest found left (record { front = h.added; spelled = h.spelled; parts = refl }) read)
+    (h.added, h.parts, λ rest found left read. found_once header.head info (h.added ++ rest) header rest found left (record { front = h.added; spelled = h.spelled; parts = refl }) read)

@@ -128,6 +128,10 @@ abbrev pub ReadsHeader : UnitHead → PictureInfo → List Bool → Option Heade
 ReadsHeader head info old (Some header) new = Takes (slice_header head info) old header new
 ReadsHeader head info old None new = (new ≡ old) × BeginsNoHeader head info old
 
+-- A header whose elements begin what was left is the one that is read.
+abbrev pub ReadsOnly : UnitHead → PictureInfo → List Bool → Option Header → List Bool → Type 0
+ReadsOnly head info old found new = (header : Header) (rest : List Bool) → Takes (slice_header head info) old header rest → (found ≡ Some header) × (new ≡ rest)
+
 -- Whatever stands behind what is written, a read gives the header and leaves that.
 abbrev pub ReadsBack : PictureInfo → Header → List Bool → Type 0
 ReadsBack info header written = (rest : List Bool) (found : Option Header) (left : List Bool) → ReadsHeader header.head info (written ++ rest) found left → (found ≡ Some header) × (left ≡ rest)

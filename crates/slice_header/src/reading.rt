@@ -5,7 +5,7 @@ ghost use Rattle.cb_types.specs.AcceptedInfo.{IsAcceptedBySome};
 ghost use Rattle.element_tables.specs.Syntax.{Gives};
 ghost use Rattle.slice_header.specs.Conditions.{HasRanges};
 ghost use Rattle.slice_header.specs.Spelling.{slice_header};
-ghost use Rattle.slice_header.specs.Headers.{IsHeader, ReadsHeader};
+ghost use Rattle.slice_header.specs.Headers.{IsHeader, ReadsHeader, ReadsOnly};
 
 use super::conditions::{active_of, has_weights};
 use super::marking_reading::read_marking;
@@ -22,6 +22,7 @@ use element_tables::Stop;
 pub fn read_header(reader: &mut BitReader, info: &PictureInfo, head: UnitHead) -> Option<Header>
     requires { IsAcceptedBySome info.now }
     ensures reads { ReadsHeader head info.now reader.old result reader.new }
+    ensures only { ReadsOnly head info.now reader.old result reader.new }
     ensures header { IfSome result (λ h. IsHeader info.now h) }
     ensures head { IfSome result (λ h. h.head ≡ head) }
 {

@@ -1,0 +1,6 @@
+use Rattle.mb_syntax.specs.Prediction.{sub_kind_bits}
+use Rattle.mb_syntax.proofs.Written.{WrittenSo}
+use Rattle.mb_syntax.proofs.writing_kinds.put_sub_kinds.Given as goal
+
+abbrev pub invariant-loop-i : goal.invariant-loop-i
+invariant-loop-i l = WrittenSo sub_kind_bits l.i l.fn.subs l.initial.out l.out

@@ -1,0 +1,6 @@
+use Rattle.mb_syntax.specs.Prediction.{sub_vector_bits}
+use Rattle.mb_syntax.proofs.Written.{WrittenSo}
+use Rattle.mb_syntax.proofs.writing_kinds.put_sub_vectors.Given as goal
+
+abbrev pub invariant-loop-i : goal.invariant-loop-i
+invariant-loop-i l = WrittenSo sub_vector_bits l.i l.fn.subs l.initial.out l.out

@@ -1,0 +1,9 @@
+pub mod Around
+pub mod Blocks
+pub mod Counts
+pub mod KindSteps
+pub mod Kinds
+pub mod Prediction
+pub mod SliceData
+pub mod Stretches
+pub mod Slice

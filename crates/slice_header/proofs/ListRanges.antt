@@ -1,6 +1,6 @@
 -- The ranges of elements that repeat.
 use Rattle.std.proofs.Common.{◌≡◌, ◌≢◌, ℕ, zero, suc, ◌-◌, ◌^◌, ◌<◌, ◌≤◌, Bool, true, false, cond, eqb, List, ◌⊎◌, inl, inr, All, length, replicate, refl, sym, ap, subst, arith}
-use Rattle.std.proofs.lemmas.List.{drop_at, length-append, length-replicate, take_at}
+use Rattle.std.proofs.lemmas.List.{length-append, length-replicate, take_at}
 use Rattle.std.proofs.lemmas.List.Elements.{All-cons, All-nil}
 use Rattle.std.proofs.lemmas.Nat.{pow_pos}
 use Rattle.element_tables.specs.Syntax.{Syntax, Takes, times, up_to}
@@ -68,12 +68,11 @@ times_range Is t (suc n) whole xs rest on h =
     subst (Exactly Is (suc n)) (made_is b.3) (record { all = ap suc others.all; values = All-cons Is a.0 b.0 (on whole a.0 a.1 a.2) others.values })
 
 -- in an array
-pub are_first : {A : Type 0} (places : ℕ) (filler : A) (Is : A → Type 0) (xs : List A) → length xs ≤ places → All Is xs → AreFirst places filler Is (length xs) (padded places filler xs)
+pub are_first : {A : Type 0} (places : ℕ) (filler : A) (Is : A → Type 0) (xs : List A) → length xs ≤ places → All Is xs → AreFirst places Is (length xs) (padded places filler xs)
 are_first places filler Is xs most all =
     let others = replicate (places - length xs) filler in
     record {
       most = most;
       long = omega (arith, most, length-append xs others, length-replicate (places - length xs) filler);
       values = subst (All Is) (sym (take_at xs others (length xs) refl)) all;
-      others = drop_at xs others (length xs) refl;
     }

@@ -150,7 +150,7 @@ command_range info n whole e rest h =
 
 pub record InEdits (info : PictureInfo) (active : ℕ) (e : Edits) : Type 0 where
   pub few : e.count ≤ active
-  pub list : AreFirst 16 (Subtract 0) (IsEdit info) e.count e.list
+  pub list : AreFirst 16 (IsEdit info) e.count e.list
 
 edits_range : (info : PictureInfo) (active : ℕ) (whole : List Bool) (e : Edits) (rest : List Bool) → active ≤ 16 → Takes (edits (max_frame_num info) active) whole e rest → InEdits info active e
 unfolding edits
@@ -161,7 +161,7 @@ edits_range info active whole e rest most h =
     subst (InEdits info active) (made_is a.3) (record { few = few; list = are_first 16 (Subtract 0) (IsEdit info) a.0 (omega (arith, few, most)) within.values })
 
 no_edits_range : (info : PictureInfo) (active : ℕ) → InEdits info active no_edits
-no_edits_range info active = record { few = omega arith; list = record { most = omega arith; long = refl; values = All-nil (IsEdit info); others = refl } }
+no_edits_range info active = record { few = omega arith; list = record { most = omega arith; long = refl; values = All-nil (IsEdit info) } }
 
 pub record InReferences (info : PictureInfo) (r : References) : Type 0 where
   pub active_override : IsOverride r.active_override
@@ -246,14 +246,14 @@ entry_range whole e rest h =
       chroma = flagged_range AreChroma chroma_weights a.1 b.0 b.1 (λ m x t. chroma_range m x b.1 t) b.2;
     })
 
-entries_range : (active : ℕ) (whole : List Bool) (xs : List EntryWeights) (rest : List Bool) → active ≤ 16 → Takes (all_entries active) whole xs rest → AreFirst 16 no_entry IsEntry active xs
+entries_range : (active : ℕ) (whole : List Bool) (xs : List EntryWeights) (rest : List Bool) → active ≤ 16 → Takes (all_entries active) whole xs rest → AreFirst 16 IsEntry active xs
 unfolding all_entries
 entries_range active whole xs rest most h =
     let a = takes_parts _ h in
     let all = times_range IsEntry entry_weights active whole a.0 a.1 entry_range a.2 in
     let long = all.all in
     let first = are_first 16 no_entry IsEntry a.0 (omega (arith, long, most)) all.values in
-    subst (AreFirst 16 no_entry IsEntry active) (made_is a.3) (subst (λ (n : ℕ). AreFirst 16 no_entry IsEntry n (padded 16 no_entry a.0)) long first)
+    subst (AreFirst 16 IsEntry active) (made_is a.3) (subst (λ (n : ℕ). AreFirst 16 IsEntry n (padded 16 no_entry a.0)) long first)
 
 weights_range : (active : ℕ) (whole : List Bool) (w : Weights) (rest : List Bool) → active ≤ 16 → Takes (pred_weight_table active) whole w rest → AreWeights active w
 unfolding pred_weight_table

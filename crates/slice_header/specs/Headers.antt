@@ -1,5 +1,5 @@
 -- The slice headers that reading can give with an info, and what it is to read one and to write one.
-use Rattle.std.specs.Prelude.{◌≡◌, ◌≢◌, ℕ, ◌+◌, ◌-◌, ◌^◌, ◌<◌, ◌≤◌, Bool, List, [], ◌∷◌, length, take, drop, replicate, ◌++◌, Option, Some, None, ℤ, pos, negsuc, ◌+ℤ◌, ◌≤ℤ◌, IsTrue, IsFalse, IfSome, All}
+use Rattle.std.specs.Prelude.{◌≡◌, ◌≢◌, ℕ, ◌+◌, ◌^◌, ◌<◌, ◌≤◌, Bool, List, [], ◌∷◌, length, take, ◌++◌, Option, Some, None, ℤ, pos, negsuc, ◌+ℤ◌, ◌≤ℤ◌, IsTrue, IsFalse, IfSome, All}
 use Rattle.bit_io.specs.Codewords.{IsSe, IsUe}
 use Rattle.cb_types.specs.AcceptedInfo.{max_frame_num}
 use Rattle.cb_types.specs.Slices.{active_entries, is_idr, is_p}
@@ -17,14 +17,14 @@ use Rattle.cb_types.specs.declared.header.Weights.{Weights}
 use Rattle.cb_types.specs.declared.picture_info.PictureInfo.{PictureInfo}
 use Rattle.element_tables.specs.Syntax.{Takes}
 use Rattle.slice_header.specs.Conditions.{has_bottom, has_delta, has_lsb, has_offsets, has_second_delta, has_weights, is_idr_unit}
+use Rattle.slice_header.specs.Lists.{padded}
 use Rattle.slice_header.specs.Spelling.{is_slice_type, no_entry, no_weights, slice_header}
 
--- an array of so many places: so many values first, and the filler in the others
-pub record AreFirst {A : Type 0} (places : ℕ) (filler : A) (IsValue : A → Type 0) (count : ℕ) (xs : List A) : Type 0 where
+-- an array of so many places, with so many values first; what stands in the other places says nothing
+pub record AreFirst {A : Type 0} (places : ℕ) (IsValue : A → Type 0) (count : ℕ) (xs : List A) : Type 0 where
   pub most : count ≤ places
   pub long : length xs ≡ places
   pub values : All IsValue (take count xs)
-  pub others : drop count xs ≡ replicate (places - count) filler
 
 -- delta_pic_order_cnt[ 0 ] and [ 1 ]
 pub record AreDeltas (info : PictureInfo) (deltas : List ℤ) : Type 0 where
@@ -63,7 +63,7 @@ pub record IsEntry (e : EntryWeights) : Type 0 where
 pub record AreWeights (active : ℕ) (w : Weights) : Type 0 where
   pub luma_denom : w.luma_denom ≤ 7
   pub chroma_denom : w.chroma_denom ≤ 7
-  pub entries : AreFirst 16 no_entry IsEntry active w.entries
+  pub entries : AreFirst 16 IsEntry active w.entries
 
 -- dec_ref_pic_marking (7.4.3.3)
 abbrev pub IsOperation : Mmco → Type 0
@@ -78,7 +78,7 @@ abbrev pub IsMarkingOf : UnitHead → Marking → Type 0
 IsMarkingOf head Absent = head.ref_idc ≡ 0
 IsMarkingOf head (Idr no_output long_term) = (head.ref_idc ≢ 0) × IsTrue (is_idr_unit head)
 IsMarkingOf head Sliding = (head.ref_idc ≢ 0) × IsFalse (is_idr_unit head)
-IsMarkingOf head (Operations count list) = (head.ref_idc ≢ 0) × IsFalse (is_idr_unit head) × AreFirst 64 Reset IsOperation count list
+IsMarkingOf head (Operations count list) = (head.ref_idc ≢ 0) × IsFalse (is_idr_unit head) × AreFirst 64 IsOperation count list
 
 -- SliceQPY (7.4.3)
 abbrev pub slice_qp : PictureInfo → Header → ℤ
@@ -102,7 +102,7 @@ pub record IsHeader (info : PictureInfo) (header : Header) : Type 0 where
   pub active_override_absent : IsFalse (is_p header) → header.active_override ≡ None
   pub edited_absent : IsFalse (is_p header) → IsFalse header.edited
   pub edit_count : header.edit_count ≤ active_entries info header
-  pub edits : AreFirst 16 (Subtract 0) (IsEdit info) header.edit_count header.edits
+  pub edits : AreFirst 16 (IsEdit info) header.edit_count header.edits
   pub edits_absent : IsFalse header.edited → header.edit_count ≡ 0
   pub weights : IsTrue (has_weights info header.slice_type) → AreWeights (active_entries info header) header.weights
   pub weights_absent : IsFalse (has_weights info header.slice_type) → header.weights ≡ no_weights
@@ -118,6 +118,40 @@ pub record IsHeader (info : PictureInfo) (header : Header) : Type 0 where
   pub beta_most : header.beta_half ≤ℤ pos 6
   pub beta_absent : IsFalse (has_offsets info header.deblock_idc) → header.beta_half ≡ pos 0
 
+-- ---- what a written header reads back as: places of an array beyond its count have the values that reading gives them
+
+abbrev pub marking_as_read : Marking → Marking
+marking_as_read Absent = Absent
+marking_as_read (Idr no_output long_term) = Idr no_output long_term
+marking_as_read Sliding = Sliding
+marking_as_read (Operations count list) = Operations count (padded 64 Reset (take count list))
+
+abbrev pub weights_as_read : ℕ → Weights → Weights
+weights_as_read active w = record { luma_denom = w.luma_denom; chroma_denom = w.chroma_denom; entries = padded 16 no_entry (take active w.entries) }
+
+abbrev pub as_read : PictureInfo → Header → Header
+as_read info header = record {
+  head = header.head;
+  first_mb = header.first_mb;
+  slice_type = header.slice_type;
+  pps = header.pps;
+  frame_num = header.frame_num;
+  idr_pic_id = header.idr_pic_id;
+  poc_lsb = header.poc_lsb;
+  delta_bottom = header.delta_bottom;
+  delta_poc = header.delta_poc;
+  active_override = header.active_override;
+  edited = header.edited;
+  edit_count = header.edit_count;
+  edits = padded 16 (Subtract 0) (take header.edit_count header.edits);
+  weights = weights_as_read (active_entries info header) header.weights;
+  marking = marking_as_read header.marking;
+  qp_delta = header.qp_delta;
+  deblock_idc = header.deblock_idc;
+  alpha_half = header.alpha_half;
+  beta_half = header.beta_half;
+}
+
 -- No header of a unit with this first byte begins the bits.
 abbrev pub BeginsNoHeader : UnitHead → PictureInfo → List Bool → Type 0
 BeginsNoHeader head info bits = (header : Header) (rest : List Bool) → ¬ Takes (slice_header head info) bits header rest
@@ -132,7 +166,7 @@ ReadsHeader head info old None new = (new ≡ old) × BeginsNoHeader head info o
 abbrev pub ReadsOnly : UnitHead → PictureInfo → List Bool → Option Header → List Bool → Type 0
 ReadsOnly head info old found new = (header : Header) (rest : List Bool) → Takes (slice_header head info) old header rest → (found ≡ Some header) × (new ≡ rest)
 
--- Whatever stands behind what is written, a read gives the header and leaves that.
+-- Whatever stands behind what is written, a read gives this header and leaves that.
 abbrev pub ReadsBack : PictureInfo → Header → List Bool → Type 0
 ReadsBack info header written = (rest : List Bool) (found : Option Header) (left : List Bool) → ReadsHeader header.head info (written ++ rest) found left → (found ≡ Some header) × (left ≡ rest)
 

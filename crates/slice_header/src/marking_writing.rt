@@ -1,11 +1,11 @@
 //! The marking of reference pictures as bits. H.264, 7.3.3.3.
 
-ghost use Rattle.std.specs.Prelude.{OnErr, OnOk};
+ghost use Rattle.std.specs.Prelude.{OnErr, OnOk, take};
 ghost use Rattle.cb_types.specs.declared.header.Marking.TheVariants.{Idr, Operations};
 ghost use Rattle.cb_types.specs.declared.header.Mmco.TheVariants.{Reset};
 ghost use Rattle.element_tables.specs.Syntax.{Appends};
-ghost use Rattle.slice_header.specs.Headers.{AreFirst, IsMarkingOf, IsOperation};
-ghost use Rattle.slice_header.specs.Lists.{AppendsItem, Extends};
+ghost use Rattle.slice_header.specs.Headers.{AreFirst, IsMarkingOf, IsOperation, marking_as_read};
+ghost use Rattle.slice_header.specs.Lists.{AppendsItem, Extends, padded};
 ghost use Rattle.slice_header.specs.Spelling.{dec_ref_pic_marking, idr_marking, later_marking, operations};
 ghost use Rattle.slice_header.specs.Spelling as spelling;
 
@@ -18,7 +18,7 @@ use std::alloc::AllocError;
 /// Writes what the header says of the marking.
 pub fn put_marking(out: &mut BitWriter, header: &Header) -> Result<(), AllocError>
     requires { IsMarkingOf header.now.head header.now.marking }
-    ensures ok { OnOk result (Appends (dec_ref_pic_marking header.now.head) header.now.marking out.old out.new) }
+    ensures ok { OnOk result (Appends (dec_ref_pic_marking header.now.head) (marking_as_read header.now.marking) out.old out.new) }
     ensures err { OnErr result (Extends out.old out.new) }
 {
     match header.marking {
@@ -41,8 +41,8 @@ fn put_idr_marking(out: &mut BitWriter, no_output: bool, long_term: bool) -> Res
 }
 
 fn put_adaptive_marking(out: &mut BitWriter, count: u32, list: &[Mmco]) -> Result<(), AllocError>
-    requires { AreFirst 64 Reset IsOperation count list.now }
-    ensures ok { OnOk result (Appends later_marking (Operations count list.now) out.old out.new) }
+    requires { AreFirst 64 IsOperation count list.now }
+    ensures ok { OnOk result (Appends later_marking (Operations count (padded 64 Reset (take count list.now))) out.old out.new) }
     ensures err { OnErr result (Extends out.old out.new) }
 {
     put_flag(out, true)?;
@@ -50,8 +50,8 @@ fn put_adaptive_marking(out: &mut BitWriter, count: u32, list: &[Mmco]) -> Resul
 }
 
 fn put_operations(out: &mut BitWriter, count: u32, list: &[Mmco]) -> Result<(), AllocError>
-    requires { AreFirst 64 Reset IsOperation count list.now }
-    ensures ok { OnOk result (Appends operations (Operations count list.now) out.old out.new) }
+    requires { AreFirst 64 IsOperation count list.now }
+    ensures ok { OnOk result (Appends operations (Operations count (padded 64 Reset (take count list.now))) out.old out.new) }
     ensures err { OnErr result (Extends out.old out.new) }
 {
     for operation in &list[..count as usize] {

@@ -7,7 +7,7 @@ ghost use Rattle.cb_types.specs.AcceptedInfo.{max_frame_num};
 ghost use Rattle.cb_types.specs.Slices.{active_entries, is_p};
 ghost use Rattle.element_tables.specs.Syntax.{Appends, present};
 ghost use Rattle.slice_header.specs.Conditions.{HasRanges};
-ghost use Rattle.slice_header.specs.Headers.{IsEdit, IsHeader};
+ghost use Rattle.slice_header.specs.Headers.{IsEdit, IsHeader, as_read};
 ghost use Rattle.slice_header.specs.Lists.{AppendsItem, Extends};
 ghost use Rattle.slice_header.specs.Parts.{edits_of, references_of};
 ghost use Rattle.slice_header.specs.Spelling.{active_override, command, edits, no_edits, no_references, references};
@@ -25,7 +25,7 @@ pub fn put_references(
 ) -> Result<(), AllocError>
     requires ranges { HasRanges info.now }
     requires header { IsHeader info.now header.now }
-    ensures ok { OnOk result (Appends (present (is_p header.now) (references info.now) no_references) (references_of header.now) out.old out.new) }
+    ensures ok { OnOk result (Appends (present (is_p header.now) (references info.now) no_references) (references_of (as_read info.now header.now)) out.old out.new) }
     ensures err { OnErr result (Extends out.old out.new) }
 {
     if !header.is_p() {
@@ -41,7 +41,7 @@ fn put_present_references(
 ) -> Result<(), AllocError>
     requires ranges { HasRanges info.now }
     requires header { IsHeader info.now header.now }
-    ensures ok { OnOk result (Appends (references info.now) (references_of header.now) out.old out.new) }
+    ensures ok { OnOk result (Appends (references info.now) (references_of (as_read info.now header.now)) out.old out.new) }
     ensures err { OnErr result (Extends out.old out.new) }
 {
     put_active_override(out, header.active_override)?;
@@ -66,7 +66,7 @@ fn put_active_override(out: &mut BitWriter, minus1: Option<u32>) -> Result<(), A
 fn put_edits(out: &mut BitWriter, info: &PictureInfo, header: &Header) -> Result<(), AllocError>
     requires ranges { HasRanges info.now }
     requires header { IsHeader info.now header.now }
-    ensures ok { OnOk result (Appends (present header.now.edited (edits (max_frame_num info.now) (active_entries info.now header.now)) no_edits) (edits_of header.now) out.old out.new) }
+    ensures ok { OnOk result (Appends (present header.now.edited (edits (max_frame_num info.now) (active_entries info.now header.now)) no_edits) (edits_of (as_read info.now header.now)) out.old out.new) }
     ensures err { OnErr result (Extends out.old out.new) }
 {
     if !header.edited {
@@ -78,7 +78,7 @@ fn put_edits(out: &mut BitWriter, info: &PictureInfo, header: &Header) -> Result
 fn put_commands(out: &mut BitWriter, info: &PictureInfo, header: &Header) -> Result<(), AllocError>
     requires ranges { HasRanges info.now }
     requires header { IsHeader info.now header.now }
-    ensures ok { OnOk result (Appends (edits (max_frame_num info.now) (active_entries info.now header.now)) (edits_of header.now) out.old out.new) }
+    ensures ok { OnOk result (Appends (edits (max_frame_num info.now) (active_entries info.now header.now)) (edits_of (as_read info.now header.now)) out.old out.new) }
     ensures err { OnErr result (Extends out.old out.new) }
 {
     for edit in &header.edits[..header.edit_count as usize] {

@@ -1,11 +1,11 @@
 //! The prediction weight table as bits. H.264, 7.3.3.2.
 
-ghost use Rattle.std.specs.Prelude.{IfSome, OnErr, OnOk};
+ghost use Rattle.std.specs.Prelude.{IfSome, OnErr, OnOk, take};
 ghost use Rattle.cb_types.specs.Slices.{active_entries};
 ghost use Rattle.element_tables.specs.Syntax.{Appends, present};
 ghost use Rattle.slice_header.specs.Conditions as conditions;
-ghost use Rattle.slice_header.specs.Headers.{AreChroma, AreFirst, AreWeights, IsEntry, IsHeader, IsWeight};
-ghost use Rattle.slice_header.specs.Lists.{Extends, flagged};
+ghost use Rattle.slice_header.specs.Headers.{AreChroma, AreFirst, AreWeights, IsEntry, IsHeader, IsWeight, weights_as_read};
+ghost use Rattle.slice_header.specs.Lists.{Extends, flagged, padded};
 ghost use Rattle.slice_header.specs.Spelling.{all_entries, chroma_weights, entry_weights, no_entry, no_weights, pred_weight_table};
 ghost use Rattle.slice_header.specs.Spelling as spelling;
 
@@ -22,7 +22,7 @@ pub fn put_weights(
     header: &Header,
 ) -> Result<(), AllocError>
     requires { IsHeader info.now header.now }
-    ensures ok { OnOk result (Appends (present (conditions.has_weights info.now header.now.slice_type) (pred_weight_table (active_entries info.now header.now)) no_weights) header.now.weights out.old out.new) }
+    ensures ok { OnOk result (Appends (present (conditions.has_weights info.now header.now.slice_type) (pred_weight_table (active_entries info.now header.now)) no_weights) (weights_as_read (active_entries info.now header.now) header.now.weights) out.old out.new) }
     ensures err { OnErr result (Extends out.old out.new) }
 {
     if !has_weights(info, header.slice_type) {
@@ -33,7 +33,7 @@ pub fn put_weights(
 
 fn put_table(out: &mut BitWriter, active: u32, weights: &Weights) -> Result<(), AllocError>
     requires { AreWeights active weights.now }
-    ensures ok { OnOk result (Appends (pred_weight_table active) weights.now out.old out.new) }
+    ensures ok { OnOk result (Appends (pred_weight_table active) (weights_as_read active weights.now) out.old out.new) }
     ensures err { OnErr result (Extends out.old out.new) }
 {
     out.put_ue(weights.luma_denom)?;
@@ -42,8 +42,8 @@ fn put_table(out: &mut BitWriter, active: u32, weights: &Weights) -> Result<(), 
 }
 
 fn put_entries(out: &mut BitWriter, active: u32, entries: &[EntryWeights]) -> Result<(), AllocError>
-    requires { AreFirst 16 no_entry IsEntry active entries.now }
-    ensures ok { OnOk result (Appends (all_entries active) entries.now out.old out.new) }
+    requires { AreFirst 16 IsEntry active entries.now }
+    ensures ok { OnOk result (Appends (all_entries active) (padded 16 no_entry (take active entries.now)) out.old out.new) }
     ensures err { OnErr result (Extends out.old out.new) }
 {
     for entry in &entries[..active as usize] {

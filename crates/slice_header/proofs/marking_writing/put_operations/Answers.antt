@@ -3,7 +3,6 @@ use Rattle.std.proofs.lemmas.List.{drop_all, drop_more, length-take-le}
 use Rattle.std.proofs.lemmas.Result.{err_from_is_err_and, on_err_weaker, on_ok_weaker}
 use Rattle.slice_header.specs.Lists.{listed}
 use Rattle.slice_header.specs.Spelling.{operation}
-use Rattle.slice_header.specs.Headers.{IsOperation}
 use Rattle.slice_header.proofs.Written.{extends_both, extends_same, puts_end, puts_first, puts_item}
 use Rattle.slice_header.proofs.WholesWritten.{operations_appended}
 use Rattle.slice_header.proofs.marking_writing.put_operations.Goals as goal
@@ -32,7 +31,7 @@ returns-clause-ok c =
     let all : length xs ≡ c.args.count = length-take-le c.args.count c.args.list.now (omega (arith, c.requires.most, c.requires.long)) in
     let same : c.loop-operation.operation-index ≡ length xs = omega (arith, c.loop-operation-test.false, c.loop-operation.auto.operation-index-end) in
     let none : drop c.loop-operation.operation-index xs ≡ [] = drop_all c.loop-operation.operation-index xs (omega (arith, same)) in
-    on_ok_weaker c.put_ue.result (λ e. operations_appended c.args.count IsOperation c.args.list.now _ _ c.requires (puts_end 6 0 operation _ _ _ _ _ _ _ none (omega arith) (omega arith) e c.loop-operation.invariant)) c.put_ue.ensures.ok
+    on_ok_weaker c.put_ue.result (λ e. operations_appended c.args.count c.args.list.now _ _ all (puts_end 6 0 operation _ _ _ _ _ _ _ none (omega arith) (omega arith) e c.loop-operation.invariant)) c.put_ue.ensures.ok
 
 pub returns-clause-err : goal.returns-clause-err
 returns-clause-err c = on_err_weaker c.put_ue.result (λ e. extends_both c.loop-operation.invariant.extends (extends_same e)) c.put_ue.ensures.err

@@ -5,7 +5,6 @@ use Rattle.cb_types.specs.AcceptedInfo.{max_frame_num}
 use Rattle.cb_types.specs.Slices.{active_entries}
 use Rattle.slice_header.specs.Lists.{listed}
 use Rattle.slice_header.specs.Spelling.{command}
-use Rattle.slice_header.specs.Headers.{IsEdit}
 use Rattle.slice_header.proofs.Written.{extends_both, extends_same, puts_end, puts_first, puts_item}
 use Rattle.slice_header.proofs.WholesWritten.{edits_appended}
 use Rattle.slice_header.proofs.references_writing.put_commands.Goals as goal
@@ -34,7 +33,7 @@ returns-clause-ok c =
     let all : length xs ≡ c.args.header.now.edit_count = length-take-le c.args.header.now.edit_count c.args.header.now.edits (omega (arith, c.requires.header.edits.most, c.requires.header.edits.long)) in
     let same : c.loop-edit.edit-index ≡ length xs = omega (arith, c.loop-edit-test.false, c.loop-edit.auto.edit-index-end) in
     let none : drop c.loop-edit.edit-index xs ≡ [] = drop_all c.loop-edit.edit-index xs (omega (arith, same)) in
-    on_ok_weaker c.put_ue.result (λ e. edits_appended (max_frame_num c.args.info.now) (active_entries c.args.info.now c.args.header.now) c.args.header.now.edit_count (IsEdit c.args.info.now) c.args.header.now.edits _ _ c.requires.header.edits (puts_end 3 3 (command (max_frame_num c.args.info.now)) _ _ _ _ _ _ _ none (omega arith) (omega arith) e c.loop-edit.invariant)) c.put_ue.ensures.ok
+    on_ok_weaker c.put_ue.result (λ e. edits_appended (max_frame_num c.args.info.now) (active_entries c.args.info.now c.args.header.now) c.args.header.now.edit_count c.args.header.now.edits _ _ all (puts_end 3 3 (command (max_frame_num c.args.info.now)) _ _ _ _ _ _ _ none (omega arith) (omega arith) e c.loop-edit.invariant)) c.put_ue.ensures.ok
 
 pub returns-clause-err : goal.returns-clause-err
 returns-clause-err c = on_err_weaker c.put_ue.result (λ e. extends_both c.loop-edit.invariant.extends (extends_same e)) c.put_ue.ensures.err

@@ -5,6 +5,7 @@ use Rattle.element_tables.proofs.Tables.{appends_absent, appends_present}
 use Rattle.cb_types.specs.AcceptedInfo.{max_frame_num}
 use Rattle.cb_types.specs.Slices.{active_entries}
 use Rattle.slice_header.specs.Spelling.{edits, no_edits}
+use Rattle.slice_header.specs.Headers.{as_read}
 use Rattle.slice_header.specs.Parts.{edits_of}
 use Rattle.slice_header.proofs.Absent.{edits_absent}
 use Rattle.slice_header.proofs.references_writing.put_edits.Goals as goal
@@ -17,6 +18,6 @@ returns-then-not-header c = record {
 
 pub returns : goal.returns
 returns c = record {
-  ok = on_ok_weaker c.put_commands.result (λ e. appends_present (edits (max_frame_num c.args.info.now) (active_entries c.args.info.now c.args.header.now)) no_edits (edits_of c.args.header.now) c.args.header.now.edited _ _ c.if-not-header.false e) c.put_commands.ensures.ok;
+  ok = on_ok_weaker c.put_commands.result (λ e. appends_present (edits (max_frame_num c.args.info.now) (active_entries c.args.info.now c.args.header.now)) no_edits (edits_of (as_read c.args.info.now c.args.header.now)) c.args.header.now.edited _ _ c.if-not-header.false e) c.put_commands.ensures.ok;
   err = on_err_weaker c.put_commands.result (λ e. e) c.put_commands.ensures.err;
 }

@@ -3,7 +3,6 @@ use Rattle.std.proofs.lemmas.List.{drop_all, drop_more, length-take-le}
 use Rattle.std.proofs.lemmas.Result.{err_from_is_err_and}
 use Rattle.element_tables.specs.Syntax.{times}
 use Rattle.slice_header.specs.Spelling.{entry_weights}
-use Rattle.slice_header.specs.Headers.{IsEntry}
 use Rattle.slice_header.proofs.Written.{extends_both, puts_done, puts_first, puts_once}
 use Rattle.slice_header.proofs.WholesWritten.{entries_appended}
 use Rattle.slice_header.proofs.weights_writing.put_entries.Goals as goal
@@ -33,4 +32,4 @@ returns-clause-ok c =
     let same : c.loop-entry.entry-index ≡ length xs = omega (arith, c.loop-entry-test.false, c.loop-entry.auto.entry-index-end) in
     let none : drop c.loop-entry.entry-index xs ≡ [] = drop_all c.loop-entry.entry-index xs (omega (arith, same)) in
     let over : c.args.active - c.loop-entry.entry-index ≡ 0 = omega (arith, all, same) in
-    entries_appended c.args.active IsEntry c.args.entries.now _ _ c.requires (puts_done entry_weights _ _ _ _ _ _ over none c.loop-entry.invariant)
+    entries_appended c.args.active c.args.entries.now _ _ (puts_done entry_weights _ _ _ _ _ _ over none c.loop-entry.invariant)

@@ -1,0 +1,3 @@
+pub mod NarrowSums
+pub mod Pixels
+pub mod WideSums

@@ -1,3 +1,4 @@
 pub mod Nearest
 pub mod Rects
 pub mod Samples
+pub mod TilePlaces

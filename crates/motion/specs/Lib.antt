@@ -1,0 +1,5 @@
+pub mod Around
+pub mod Border
+pub mod Kinds
+pub mod Partitions
+pub mod Vectors

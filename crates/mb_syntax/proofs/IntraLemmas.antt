@@ -18,7 +18,7 @@ use Rattle.mb_syntax.proofs.Pairs.{both_free, made_free, none_first, none_made, 
 use Rattle.mb_syntax.proofs.Steps.{joined}
 use Rattle.mb_syntax.specs.Kinds.{intra16_type, intra_type}
 use Rattle.mb_syntax.specs.Prediction.{AreModes, AreSamples, IsIntra16, IsKindOf, IsMode, alignment, mode_bits, pattern_bits, prediction_bits}
-use Rattle.mb_syntax.specs.SliceData.{place_before}
+use Rattle.mb_syntax.specs.MacroblockLayer.{place_before}
 use Rattle.mb_syntax.specs.declared.slice.Slice.{Slice}
 
 -- ---- samples

@@ -9,10 +9,16 @@ pub mod MbLemmas
 pub mod ModeLemmas
 pub mod Pairs
 pub mod PartLemmas
+pub mod PlaceLemmas
+pub mod ReadLemmas
 pub mod ResidualLemmas
+pub mod RestLemmas
 pub mod SameBlocks
+pub mod SkipLemmas
 pub mod Steps
 pub mod StretchLemmas
 pub mod SubLemmas
 pub mod WholeKinds
+pub mod WholeMbs
+pub mod WriteLemmas
 pub mod Written

@@ -18,7 +18,7 @@ use Rattle.mb_syntax.specs.Blocks.{AreBlocks, residual_bits}
 use Rattle.mb_syntax.specs.Counts.{block_of, blocks_of, chroma_blocks, dc_block}
 use Rattle.mb_syntax.specs.Kinds.{has_qp_delta}
 use Rattle.mb_syntax.specs.Prediction.{IsKind, kind_bits}
-use Rattle.mb_syntax.specs.SliceData.{IsCoded, IsQpDelta, mb_bits, qp_delta_bits}
+use Rattle.mb_syntax.specs.MacroblockLayer.{IsCoded, IsQpDelta, mb_bits, qp_delta_bits}
 use Rattle.mb_syntax.specs.Stretches.{HasSizes}
 use Rattle.mb_syntax.specs.declared.slice.Slice.{Slice}
 

@@ -10,7 +10,7 @@ use Rattle.cb_types.specs.declared.macroblock.MbKind.{MbKind}
 use Rattle.mb_syntax.proofs.ResidualLemmas.{mb_whole, plane_of, two_of}
 use Rattle.mb_syntax.specs.Around.{IsAround}
 use Rattle.mb_syntax.specs.Counts.{block_of, blocks_of, chroma_blocks, dc_block}
-use Rattle.mb_syntax.specs.SliceData.{IsCoded}
+use Rattle.mb_syntax.specs.MacroblockLayer.{IsCoded}
 use Rattle.mb_syntax.specs.Stretches.{HasSizes, IsSpelled}
 use Rattle.mb_syntax.specs.declared.counts.Around.{Around}
 use Rattle.mb_syntax.specs.declared.slice.Slice.{Slice}

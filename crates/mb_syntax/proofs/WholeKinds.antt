@@ -15,7 +15,7 @@ use Rattle.mb_syntax.proofs.KindLemmas.{intra16_range}
 use Rattle.mb_syntax.proofs.Pairs.{Made, both_free, made_free, none_first, none_made, none_second}
 use Rattle.mb_syntax.specs.Kinds.{intra16_type, intra_type, mb_type}
 use Rattle.mb_syntax.specs.Prediction.{IsKind, IsKindOf, kind_bits, prediction_bits}
-use Rattle.mb_syntax.specs.SliceData.{place_before}
+use Rattle.mb_syntax.specs.MacroblockLayer.{place_before}
 use Rattle.mb_syntax.specs.declared.slice.Slice.{Slice}
 
 -- ---- numbers of kinds

@@ -4,6 +4,8 @@ pub mod Counts
 pub mod KindSteps
 pub mod Kinds
 pub mod Prediction
+pub mod MacroblockLayer
+pub mod Progress
 pub mod SliceData
 pub mod Stretches
 pub mod Slice

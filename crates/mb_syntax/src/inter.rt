@@ -6,7 +6,7 @@ ghost use Rattle.cavlc.specs.Parts.{Gives};
 ghost use Rattle.mb_syntax.specs.KindSteps.{AreDeltas, AreSo, AreSubsOf, IsSubKind, deltas_bits, first_subs_bits, parts_bits, subs_bits};
 ghost use Rattle.mb_syntax.specs.Kinds as kinds;
 ghost use Rattle.mb_syntax.specs.Prediction.{IsFirstSub, IsKindOf, IsPart, IsReference, IsSub, IsVector, prediction_bits, reference_bits, sub_vector_bits, vector_bits};
-ghost use Rattle.mb_syntax.specs.SliceData.{place_before};
+ghost use Rattle.mb_syntax.specs.MacroblockLayer.{place_before};
 
 use super::kinds::read_pattern;
 use super::slice::Slice;

@@ -6,7 +6,7 @@ ghost use Rattle.bit_io.specs.Codewords.{ue};
 ghost use Rattle.cavlc.specs.Parts.{Gives};
 ghost use Rattle.mb_syntax.specs.Kinds.{intra_type, mb_type};
 ghost use Rattle.mb_syntax.specs.Prediction.{AreModes, AreSamples, IsKindOf, IsMode, alignment, mode_bits, prediction_bits};
-ghost use Rattle.mb_syntax.specs.SliceData.{place_before};
+ghost use Rattle.mb_syntax.specs.MacroblockLayer.{place_before};
 
 use super::kinds::read_pattern;
 use super::slice::Slice;

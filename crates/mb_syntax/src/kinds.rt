@@ -4,7 +4,7 @@ ghost use Rattle.std.specs.Prelude.{◌≤◌};
 ghost use Rattle.cavlc.specs.Parts.{Gives};
 ghost use Rattle.mb_syntax.specs.Kinds.{intra_type};
 ghost use Rattle.mb_syntax.specs.Prediction.{IsKind, IsKindOf, kind_bits, pattern_bits, prediction_bits};
-ghost use Rattle.mb_syntax.specs.SliceData.{place_before};
+ghost use Rattle.mb_syntax.specs.MacroblockLayer.{place_before};
 
 use super::inter::read_inter;
 use super::intra::{read_intra4, read_intra16, read_pcm};

@@ -1,13 +1,22 @@
-ghost use Rattle.std.specs.Prelude.{◌≡◌, ◌≤◌, ◌%◌, ℕ, length};
-ghost use Rattle.bit_io.specs.Reads.{IsPrefixFree};
-ghost use Rattle.cb_types.specs.declared.macroblock.MbKind.{MbKind};
-ghost use Rattle.mb_syntax.specs.Prediction.{IsKind, kind_bits};
-ghost use Rattle.mb_syntax.specs.declared.slice.Slice.{Slice};
+// What holds of the bits of any slice's macroblocks.
+ghost use Rattle.std.specs.Prelude.{◌≡◌, ◌≤◌, ℕ, List, Bool};
+ghost use Rattle.cb_types.specs.SizeMbs.{IsWithinLimits};
+ghost use Rattle.cb_types.specs.Slices.{active_entries};
+ghost use Rattle.cb_types.specs.declared.header.Header.{Header};
+ghost use Rattle.cb_types.specs.declared.macroblock.Macroblock.{Macroblock};
+ghost use Rattle.cb_types.specs.declared.picture_info.PictureInfo.{PictureInfo};
+ghost use Rattle.cb_types.specs.declared.size.SizeMbs.{SizeMbs};
+ghost use Rattle.mb_syntax.specs.Slice.{slice_of};
+ghost use Rattle.mb_syntax.specs.SliceData.{AreSliceData, IsSliceData, slice_bits};
 
-/// The bits of no kind of macroblock begin those of another, so the kind that a read gives is determined.
-/// Each kind has some bits, and they depend on its place only by where whole bytes end.
-pub fn kinds_are_prefix_free()
-    ensures free { (slice : Slice) (place : ℕ) → slice.active ≤ 16 → IsPrefixFree (IsKind slice) (kind_bits slice place) }
-    ensures some { (slice : Slice) (place : ℕ) (kind : MbKind) → IsKind slice kind → 1 ≤ length (kind_bits slice place kind) }
-    ensures place { (slice : Slice) (p q : ℕ) (kind : MbKind) → p % 8 ≡ q % 8 → kind_bits slice p kind ≡ kind_bits slice q kind }
+/// The bits behind a slice header are those of one list of macroblocks at most.
+pub fn slice_data_is_unique()
+    ensures one { (info : PictureInfo) (header : Header) (size : SizeMbs) (bits : List Bool) (mbs others : List Macroblock) → IsWithinLimits size → active_entries info header ≤ 16 →
+        AreSliceData info header size bits mbs → AreSliceData info header size bits others → mbs ≡ others }
+{}
+
+/// What is written of a slice's macroblocks, at any place of the payload, is read as the same macroblocks.
+pub fn slice_data_reads_back()
+    ensures back { (info : PictureInfo) (header : Header) (size : SizeMbs) (place : ℕ) (mbs : List Macroblock) → IsSliceData (slice_of info header size) mbs →
+        AreSliceData info header size (slice_bits (slice_of info header size) place mbs) mbs }
 {}

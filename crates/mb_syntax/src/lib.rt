@@ -1,4 +1,4 @@
-//! The macroblocks of a slice to and from their bits. H.264, 7.3.5.
+//! The macroblocks of a slice to and from their bits. H.264, 7.3.4 and 7.3.5.
 #![tactic(auto)]
 
 mod counts;
@@ -9,12 +9,12 @@ mod laws;
 mod macroblock;
 mod residual;
 mod slice;
+mod slice_data;
 mod writing_kinds;
 mod writing_residual;
+mod writing_slice_data;
 
-pub use counts::{Around, Columns, Counts};
-pub use laws::kinds_are_prefix_free;
-pub use macroblock::{read_macroblock, read_next};
+pub use laws::{slice_data_is_unique, slice_data_reads_back};
 pub use slice::Slice;
-pub use writing_kinds::put_kind;
-pub use writing_residual::put_residual;
+pub use slice_data::read_slice_data;
+pub use writing_slice_data::write_slice_data;

@@ -4,7 +4,7 @@ ghost use Rattle.cavlc.specs.Parts.{Gives};
 ghost use Rattle.cb_types.specs.declared.macroblock.Macroblock.{Macroblock};
 ghost use Rattle.mb_syntax.specs.Around.{AreColumns, IsAround, IsCountOf};
 ghost use Rattle.mb_syntax.specs.Kinds.{has_qp_delta, is_pcm};
-ghost use Rattle.mb_syntax.specs.SliceData.{IsCoded, IsQpDelta, mb_bits, place_before, qp_delta_bits};
+ghost use Rattle.mb_syntax.specs.MacroblockLayer.{IsCoded, IsQpDelta, mb_bits, place_before, qp_delta_bits};
 
 use super::counts::{Around, Columns, Counts};
 use super::kinds::read_kind;
@@ -37,9 +37,9 @@ pub fn read_next(
     Some(())
 }
 
-/// Reads macroblock_layer and gives how many levels each block has. None where no macroblock's bits begin what is left;
-/// the macroblock and the reader are unspecified then.
-pub fn read_macroblock(
+// Reads macroblock_layer and gives how many levels each block has. None where no macroblock's bits begin what is left;
+// the macroblock and the reader are unspecified then.
+fn read_macroblock(
     reader: &mut BitReader,
     slice: &Slice,
     around: &Around,
@@ -60,7 +60,7 @@ pub fn read_macroblock(
     Some(counts)
 }
 
-fn is_pcm(kind: &MbKind) -> bool
+pub fn is_pcm(kind: &MbKind) -> bool
     ensures { result ≡ is_pcm kind.now }
 {
     matches!(kind, MbKind::Pcm(_))
@@ -79,7 +79,7 @@ fn read_qp_delta(reader: &mut BitReader, kind: &MbKind) -> Option<i32>
     Some(delta)
 }
 
-fn has_qp_delta(kind: &MbKind) -> bool
+pub fn has_qp_delta(kind: &MbKind) -> bool
     ensures { result ≡ has_qp_delta kind.now }
 {
     is_intra16(kind) || pattern_of(kind) > 0

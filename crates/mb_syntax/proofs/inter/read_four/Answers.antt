@@ -1,5 +1,5 @@
 use Rattle.mb_syntax.proofs.InterKindLemmas.{four_no_subs, four_no_pattern, four_read}
-use Rattle.mb_syntax.specs.SliceData.{place_before}
+use Rattle.mb_syntax.specs.MacroblockLayer.{place_before}
 use Rattle.mb_syntax.proofs.inter.read_four.Goals as goal
 
 pub returns-in_err-subs : goal.returns-in_err-subs

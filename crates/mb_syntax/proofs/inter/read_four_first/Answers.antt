@@ -1,5 +1,5 @@
 use Rattle.mb_syntax.proofs.InterKindLemmas.{four_first_no_subs, four_first_no_pattern, four_first_read}
-use Rattle.mb_syntax.specs.SliceData.{place_before}
+use Rattle.mb_syntax.specs.MacroblockLayer.{place_before}
 use Rattle.mb_syntax.proofs.inter.read_four_first.Goals as goal
 
 pub returns-in_err-subs : goal.returns-in_err-subs

@@ -1,5 +1,5 @@
 use Rattle.mb_syntax.proofs.InterKindLemmas.{tall_no_parts, tall_no_pattern, tall_read}
-use Rattle.mb_syntax.specs.SliceData.{place_before}
+use Rattle.mb_syntax.specs.MacroblockLayer.{place_before}
 use Rattle.mb_syntax.proofs.inter.read_tall.Goals as goal
 
 pub returns-in_err-parts : goal.returns-in_err-parts

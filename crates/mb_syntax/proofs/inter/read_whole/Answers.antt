@@ -1,5 +1,5 @@
 use Rattle.mb_syntax.proofs.InterKindLemmas.{whole_no_pattern, whole_no_reference, whole_no_vector, whole_read}
-use Rattle.mb_syntax.specs.SliceData.{place_before}
+use Rattle.mb_syntax.specs.MacroblockLayer.{place_before}
 use Rattle.mb_syntax.proofs.inter.read_whole.Goals as goal
 
 pub returns-in_err-reference : goal.returns-in_err-reference

@@ -1,5 +1,5 @@
 use Rattle.mb_syntax.proofs.InterKindLemmas.{wide_no_parts, wide_no_pattern, wide_read}
-use Rattle.mb_syntax.specs.SliceData.{place_before}
+use Rattle.mb_syntax.specs.MacroblockLayer.{place_before}
 use Rattle.mb_syntax.proofs.inter.read_wide.Goals as goal
 
 pub returns-in_err-parts : goal.returns-in_err-parts

@@ -1,6 +1,6 @@
 use Rattle.std.proofs.Common.{inl, inr}
 use Rattle.mb_syntax.proofs.IntraLemmas.{IsLuma, intra16_none, intra16_read}
-use Rattle.mb_syntax.specs.SliceData.{place_before}
+use Rattle.mb_syntax.specs.MacroblockLayer.{place_before}
 use Rattle.mb_syntax.proofs.intra.read_intra16.Goals as goal
 use Rattle.mb_syntax.proofs.intra.read_intra16.Goals.{then-number-gt12, else-number-gt12}
 

@@ -1,5 +1,5 @@
 use Rattle.mb_syntax.proofs.IntraLemmas.{intra4_no_chroma, intra4_no_modes, intra4_no_pattern, intra4_read}
-use Rattle.mb_syntax.specs.SliceData.{place_before}
+use Rattle.mb_syntax.specs.MacroblockLayer.{place_before}
 use Rattle.mb_syntax.proofs.intra.read_intra4.Goals as goal
 
 pub returns-in_err-modes : goal.returns-in_err-modes

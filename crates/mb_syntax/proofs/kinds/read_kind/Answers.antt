@@ -1,6 +1,6 @@
 use Rattle.std.proofs.Common.{◌-◌}
 use Rattle.mb_syntax.proofs.WholeKinds.{in_i, in_p, intra_kind_read, kind_read, no_type}
-use Rattle.mb_syntax.specs.SliceData.{place_before}
+use Rattle.mb_syntax.specs.MacroblockLayer.{place_before}
 use Rattle.mb_syntax.proofs.kinds.read_kind.Goals as goal
 
 pub returns-in_err-number : goal.returns-in_err-number

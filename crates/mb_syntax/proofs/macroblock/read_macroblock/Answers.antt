@@ -1,6 +1,6 @@
 use Rattle.std.proofs.Common.{◌∙◌, SFits, rules, to_z-of_z, w32}
 use Rattle.mb_syntax.proofs.MbLemmas.{mb_read, no_blocks, no_delta, no_kind}
-use Rattle.mb_syntax.specs.SliceData.{place_before}
+use Rattle.mb_syntax.specs.MacroblockLayer.{place_before}
 use Rattle.mb_syntax.proofs.macroblock.read_macroblock.Goals as goal
 
 pub returns-in_err-mb-clause-reads : goal.returns-in_err-mb-clause-reads

@@ -1,0 +1,12 @@
+pub mod Decoded
+pub mod EdgeRuns
+pub mod Far
+pub mod IdleEdges
+pub mod Meetings
+pub mod Pictures
+pub mod Places
+pub mod Puts
+pub mod Steps
+pub mod Sums
+pub mod Tables
+pub mod Unfiltered

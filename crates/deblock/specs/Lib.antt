@@ -1,0 +1,9 @@
+pub mod Deblocked
+pub mod Edges
+pub mod Filters
+pub mod Laws
+pub mod Lines
+pub mod Marks
+pub mod Runs
+pub mod Strength
+pub mod Thresholds

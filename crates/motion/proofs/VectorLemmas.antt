@@ -12,7 +12,7 @@ use Rattle.mv_pred.specs.declared.near.Near.TheVariants.{Missing, Inter}
 use Rattle.motion.specs.Border.{vector_at}
 use Rattle.motion.specs.Kinds.{is_intra}
 use Rattle.motion.specs.Partitions.{first_block, partition_of}
-use Rattle.motion.specs.Vectors.{AreVectors, IsVector, IsWithinBounds, above, near_at, own, prediction, sum_of, vector_of}
+use Rattle.motion.specs.Vectors.{AreShared, AreVectors, IsVector, IsWithinBounds, above, near_at, own, prediction, sum_of, vector_of}
 use Rattle.motion.specs.declared.border.Border.{Border}
 use Rattle.motion.specs.declared.partition.Partition.{Partition}
 use Rattle.motion.proofs.PartitionLemmas.{first_before, same_partition}
@@ -116,3 +116,9 @@ pub from_named : (border : Border) (kind : MbKind) (v : List Vector) (block firs
     → x ≡ vector_at v first → (x ≡ vector_of border kind v block) × IsWithinBounds x
 from_named border kind v block first x named lt earlier before is =
     from_first border kind v block x lt (subst (λ k. k < block) named earlier) before (is ∙ ap (vector_at v) named)
+
+-- the blocks of a partition have one vector
+pub shared_vectors : (border : Border) (kind : MbKind) (v : List Vector) → AreVectors border kind 16 v → AreShared kind v
+shared_vectors border kind v are block lt =
+    let first : ℕ = first_block (partition_of kind block) in
+    (are block lt).value ∙ (sym (vector_of_first border kind v block lt) ∙ sym (are first (omega (arith, first_before kind block lt))).value)

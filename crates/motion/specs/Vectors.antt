@@ -79,3 +79,7 @@ pub record LeavesBounds (border : Border) (kind : MbKind) : Type 0 where
   pub inside : block < 16
   pub before : AreVectors border kind block vectors
   pub outside : ¬ IsWithinBounds (vector_of border kind vectors block)
+
+-- The blocks of a partition have the vector of its first block.
+abbrev pub AreShared : MbKind → List Vector → Type 0
+AreShared kind vectors = (block : ℕ) → block < 16 → vector_at vectors block ≡ vector_at vectors (first_block (partition_of kind block))

@@ -55,7 +55,11 @@ fn near_in(macroblocks: &[Macroblock], marks: &[MbMark], number: Option<u32>, bl
 {
     match number {
         None => Near::Missing,
-        Some(number) => near_of(&macroblocks[number as usize], &marks[number as usize], block),
+        Some(number) => near_of(
+            &macroblocks[number as usize],
+            &marks[number as usize],
+            block,
+        ),
     }
 }
 

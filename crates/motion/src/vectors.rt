@@ -35,12 +35,7 @@ pub fn vectors_of(border: &Border, kind: &MbKind) -> Option<[Vector; 16]>
 
 // The vector of a block, from those of the blocks before it.
 #[tactic(auto, unfolding(crate::specs::Vectors::vector_of))]
-fn vector_of(
-    border: &Border,
-    kind: &MbKind,
-    vectors: &[Vector; 16],
-    block: u32,
-) -> Option<Vector>
+fn vector_of(border: &Border, kind: &MbKind, vectors: &[Vector; 16], block: u32) -> Option<Vector>
     requires block { block < 16 }
     requires inter { is_intra kind.now ≡ false }
     ensures { MatchOption result (¬ IsWithinBounds (vector_of border.now kind.now vectors.now block)) (λ vector. (vector ≡ vector_of border.now kind.now vectors.now block) × IsWithinBounds vector) }
@@ -67,7 +62,14 @@ fn prediction(
     let first = partition.first_block();
     let a = near_at(border, kind, vectors, first, column, row + 1);
     let b = near_at(border, kind, vectors, first, column + 1, row);
-    let c = near_at(border, kind, vectors, first, column + partition.width + 1, row);
+    let c = near_at(
+        border,
+        kind,
+        vectors,
+        first,
+        column + partition.width + 1,
+        row,
+    );
     let d = near_at(border, kind, vectors, first, column, row);
     if is_skip(kind) {
         skip(a, b, c, d)

@@ -6,6 +6,8 @@ mod inter;
 #[cfg(test)]
 mod intra;
 #[cfg(test)]
+mod pixels;
+#[cfg(test)]
 mod transforms;
 
 #[cfg(test)]

@@ -13,10 +13,10 @@ loop-m-preserved c =
     record {
       sides = sides;
       samples = λ x y inside lt.
-      let across : x < 16 * width = omega (arith, inside.column, sides.width) in
-      let here : macroblock_at 16 width x y ≡ m → get_or (tile_at tiles m).y ((y - 16 * (m / width)) * 16 + (x - 16 * (m % width))) 0 ≡ tile_y (tile_at tiles (macroblock_at 16 width x y)) (x % 16) (y % 16) =
-      λ same. ap (λ k. get_or (tile_at tiles m).y k 0) (in_luma_tile m width x y c.requires.some_column across same) ∙ ap (λ n. tile_y (tile_at tiles n) (x % 16) (y % 16)) (sym same) in
-      let before : macroblock_at 16 width x y < m → sample c.loop-m.plane x y ≡ tile_y (tile_at tiles (macroblock_at 16 width x y)) (x % 16) (y % 16) =
-      c.loop-m.invariant.samples x y (record { column = omega (arith, inside.column, c.put_rect.ensures.sides.width); row = omega (arith, inside.row, c.put_rect.ensures.sides.height) }) in
-      c.put_rect.ensures.samples x y ∙ luma_more m width x y _ _ _ c.requires.some_column across here before lt;
+          let across : x < 16 * width = omega (arith, inside.column, sides.width) in
+          let here : macroblock_at 16 width x y ≡ m → get_or (tile_at tiles m).y ((y - 16 * (m / width)) * 16 + (x - 16 * (m % width))) 0 ≡ tile_y (tile_at tiles (macroblock_at 16 width x y)) (x % 16) (y % 16) =
+          λ same. ap (λ k. get_or (tile_at tiles m).y k 0) (in_luma_tile m width x y c.requires.some_column across same) ∙ ap (λ n. tile_y (tile_at tiles n) (x % 16) (y % 16)) (sym same) in
+          let before : macroblock_at 16 width x y < m → sample c.loop-m.plane x y ≡ tile_y (tile_at tiles (macroblock_at 16 width x y)) (x % 16) (y % 16) =
+          c.loop-m.invariant.samples x y (record { column = omega (arith, inside.column, c.put_rect.ensures.sides.width); row = omega (arith, inside.row, c.put_rect.ensures.sides.height) }) in
+          c.put_rect.ensures.samples x y ∙ luma_more m width x y _ _ _ c.requires.some_column across here before lt;
     }

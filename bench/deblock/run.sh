@@ -11,7 +11,7 @@ for name in cb_types cb_tables vd_plane int_transform deblock; do
     rm -rf "$work/crates/$name/must-fail"
 done
 cp "$here/main.rt.txt" "$work/crates/deblock_bench/src/main.rt"
-printf 'cb_types:\ncb_tables:\nvd_plane: cb_types\nint_transform: cb_tables\ndeblock: vd_plane cb_types cb_tables int_transform\ndeblock_bench: deblock vd_plane cb_types\n' >"$work/crates.txt"
+printf 'cb_types:\ncb_tables:\nvd_plane: cb_types\nint_transform: cb_tables\ndeblock: vd_plane cb_types cb_tables int_transform\ndeblock_bench: deblock vd_plane cb_types int_transform\n' >"$work/crates.txt"
 cp "$here/plain.rs.txt" "$work/plain.rs"
 rustc --edition 2024 -O -C target-cpu=x86-64-v2 -o "$work/plain" "$work/plain.rs"
 cd "$work/crates/deblock_bench"

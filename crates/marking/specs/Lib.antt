@@ -1,0 +1,5 @@
+pub mod Begun
+pub mod Frames
+pub mod History
+pub mod Operations
+pub mod OrderCounts

@@ -2,6 +2,8 @@
 #![tactic(auto)]
 
 #[cfg(test)]
+mod deblocking;
+#[cfg(test)]
 mod inter;
 #[cfg(test)]
 mod intra;

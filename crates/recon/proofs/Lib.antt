@@ -1,0 +1,16 @@
+pub mod BlockPlaces
+pub mod Parts
+pub mod ZeroResidual
+pub mod SidesLemmas
+pub mod Intra4Lemmas
+pub mod ModeLemmas
+pub mod RangeLemmas
+pub mod InterPlaces
+pub mod PartitionRects
+pub mod InterLemmas
+pub mod TileLemmas
+pub mod AroundLemmas
+pub mod KeptLemmas
+pub mod QuantizerLemmas
+pub mod OneSolution
+pub mod SamePrefix

@@ -1,0 +1,17 @@
+pub mod Availability
+pub mod Columns
+pub mod Conditions
+pub mod Edges
+pub mod Inputs
+pub mod Inter
+pub mod Intra
+pub mod IntraTiles
+pub mod Laws
+pub mod Marks
+pub mod Modes
+pub mod Quantizer
+pub mod Rebuilt
+pub mod References
+pub mod Residuals
+pub mod Sides
+pub mod Slice

@@ -6,18 +6,18 @@ use slice_header::{read_header, write_header};
 use std::alloc::AllocError;
 use std::test::Fail;
 
-const FILTERED: PictureInfo = PictureInfo {
+pub const FILTERED: PictureInfo = PictureInfo {
     deblocking_filter_control_present_flag: true,
     ..INFO
 };
 
-const HEAD: UnitHead = UnitHead {
+pub const HEAD: UnitHead = UnitHead {
     ref_idc: 2,
     unit_type: 1,
 };
 
 // The header has 18 bits; 01 0100 are left.
-const SLICE: [u8; 3] = [0x9A, 0x22, 0x94];
+pub const SLICE: [u8; 3] = [0x9A, 0x22, 0x94];
 
 #[test]
 fn a_header_is_read_and_written_back(rt: HostRuntime) -> Result<(), Fail> {

@@ -15,3 +15,5 @@ mod lists;
 mod pictures;
 #[cfg(test)]
 mod sets;
+#[cfg(test)]
+mod slice_data;

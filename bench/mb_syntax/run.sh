@@ -48,7 +48,7 @@ for stream in "$streams"/*; do
     ./out/slice_bench <"$work/units.bin" | sort -t, -k2 -n | head -1
     if command -v ffmpeg >/dev/null; then
         echo "$(basename "$stream"): the whole decoding by ffmpeg"
-        ffmpeg -loglevel error -benchmark -cpuflags 0 -threads 1 -i "$stream" -f null - 2>&1 | grep bench || true
+        ffmpeg -hide_banner -nostats -benchmark -cpuflags 0 -threads 1 -i "$stream" -f null - 2>&1 | grep "^bench: utime" || true
     fi
 done
 grep -m1 'model name' /proc/cpuinfo

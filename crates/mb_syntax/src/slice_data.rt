@@ -18,7 +18,7 @@ use cb_types::{Header, Macroblock, PictureInfo, SizeMbs};
 /// Reads the macroblocks of a slice with this header from what is left of its payload, to the trailing bits.
 /// They are put into the picture's macroblocks from `first_mb` on, and their number is given. None exactly
 /// where what is left isn't some macroblocks and the trailing bits; then nothing is consumed, and the
-/// macroblocks are unspecified.
+/// macroblocks from `first_mb` on are unspecified. Those before it stay in either case.
 pub fn read_slice_data(
     reader: &mut BitReader,
     info: &PictureInfo,
@@ -32,7 +32,7 @@ pub fn read_slice_data(
     ensures reads { MatchOption result ((mbs : List Macroblock) → AreSliceData info.now header.now size reader.old mbs → ⊥)
         (λ count. AreSliceData info.now header.now size reader.old (take count (drop header.now.first_mb into.new))) }
     ensures within { IfSome result (λ count. header.now.first_mb + count ≤ macroblocks size) }
-    ensures before { IfSome result (λ count. take header.now.first_mb into.new ≡ take header.now.first_mb into.old) }
+    ensures before { take header.now.first_mb into.new ≡ take header.now.first_mb into.old }
     ensures behind { IfSome result (λ count. drop (header.now.first_mb + count) into.new ≡ drop (header.now.first_mb + count) into.old) }
     ensures left { OnSome result (EndsHere reader.new) }
     ensures none { IfNone result (reader.new ≡ reader.old) }

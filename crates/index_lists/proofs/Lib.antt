@@ -1,0 +1,5 @@
+pub mod Places
+pub mod Paths
+pub mod RingLemmas
+pub mod Maps
+pub mod NodeLemmas

@@ -1,4 +1,5 @@
 pub mod Places
+pub mod Replaced
 pub mod Paths
 pub mod RingLemmas
 pub mod Maps

@@ -1,192 +1,153 @@
 -- What holds of the nodes and their two families of lists, before and after a change.
-use Rattle.std.proofs.Common.{◌≡◌, ◌≢◌, ℕ, ◌+◌, ◌<◌, List, [], ◌∷◌, ◌++◌, map, length, get_or, set, replicate, Option, Some, None, IsSome, Contains, option_map, slice_get, refl, sym, ap, subst, ◌∙◌, inl, inr, arith, append_assoc, length-append}
+use Rattle.std.proofs.Common.{◌≡◌, ◌≢◌, ℕ, ◌+◌, ◌<◌, ◌≤◌, ◌^◌, List, [], ◌∷◌, ◌++◌, map, length, get_or, set, replicate, Option, Some, None, IsSome, is_some, count_by, Contains, option_map, slice_get, sum_by, refl, sym, ap, subst, ◌∙◌, inl, inr, arith, mul-zero}
 use Rattle.std.proofs.lemmas.Bool.{cases_eq}
-use Rattle.std.proofs.lemmas.List.{length_push, map-append, map-set, map_push}
-use Rattle.std.proofs.lemmas.List.Elements.{Contains-append_cases, Contains-append_left, Contains-append_right, Contains-push, Contains-push_cases}
-use Rattle.std.proofs.lemmas.List.Sums.{sum_by-set}
+use Rattle.std.proofs.lemmas.List.{map-append, map-set, map_push}
+use Rattle.std.proofs.lemmas.List.Folds.{sum_by-replicate}
 use Rattle.slab.specs.Slab.{ContainsKey, Slab, get, slab_len, Updates}
 use Rattle.index_lists.specs.Lists.{HoldSameNodes, IsLinked, Link, Lists, StandOnce, list_at}
-use Rattle.index_lists.specs.Nodes.{AreListed, IsSound, holder_in, link_of, lists_of, queues_in, value_in}
+use Rattle.index_lists.specs.Nodes.{AreListed, AreOfHolders, IsSound, holder_in, link_of, lists_of, queues_in, value_in}
 use Rattle.index_lists.specs.Rings.{IsInSome, NodeLists}
 use Rattle.index_lists.specs.declared.links.Node.{Node}
 use Rattle.index_lists.proofs.Maps.{Contains-map, list_at-map, list_at-replicate_nil, map-Contains, map-replicate_nil, map-same, maps-back, maps-same}
-use Rattle.index_lists.proofs.Places.{Contains-here, Contains-later, IsOnceIn, list_within, once_in, one_list, parts_apart, replaced-here, replaced-other, replaced-there}
+use Rattle.index_lists.proofs.Replaced.{pushed-count, pushed-own, pushed-still, pushed-there, removed-count, removed-still, removed-there}
 
--- what a node has, where something of it is known
-node_of : (o : Option Node) (number : Node → ℕ) (i : ℕ) → option_map number o ≡ Some i → (node : Node) × (o ≡ Some node) × (number node ≡ i)
-node_of None number i is = absurd (cc)
-node_of (Some node) number i is = (node, refl, cc)
+-- the node under a key that has one
+pub node_at : (nodes : Slab Node) (n : ℕ) → ContainsKey nodes n → (node : Node) × (get nodes n ≡ Some node)
+node_at nodes n present = of_option (get nodes n) present
+  where
+    of_option : (o : Option Node) → IsSome o → (node : Node) × (o ≡ Some node)
+    of_option None present = absurd (cc)
+    of_option (Some node) present = (node, refl)
 
-module _ (nodes : Slab Node) (number : Node → ℕ) (listed : NodeLists) (sound : AreListed nodes number listed) where
-  -- a node in a list is one of the slab's
-  pub listed-node : (i n : ℕ) → Contains (list_at listed.lists i) n → (node : Node) × (get nodes n ≡ Some node) × (number node ≡ i)
-  listed-node i n stands = node_of (get nodes n) number i ((sound.listed_at i n).0 stands)
+pub at_key : (nodes : Slab Node) (n : ℕ) (node : Node) → get nodes n ≡ Some node → ContainsKey nodes n
+at_key nodes n node is = subst IsSome (sym is) refl
 
-  -- and the other way round
-  pub node-listed : (n : ℕ) (node : Node) → get nodes n ≡ Some node → Contains (list_at listed.lists (number node)) n
-  node-listed n node is = (sound.listed_at (number node) n).1 (ap (option_map number) is)
+-- nothing and something at once
+pub not_both : {P : Type 0} (o : Option Node) → o ≡ None → IsSome o → P
+not_both None none some = absurd (cc)
+not_both (Some node) none some = absurd (cc)
 
-  pub unlisted : (n : ℕ) → get nodes n ≡ None → ¬ IsInSome listed.lists n
-  unlisted n none there = let found = listed-node there.0 n there.1 in absurd (cc (none, found.1))
-
-  -- A new node joins the list of its number.
-  pub AreListed-pushed : (now : Slab Node) (listed_now : NodeLists) (key : ℕ) (node : Node) → get nodes key ≡ None → Updates nodes now key (Some node) → slab_len now ≡ slab_len nodes + 1 → now.capacity ≡ nodes.capacity → number node < length listed.lists → listed_now.nodes ≡ listed.nodes → listed_now.lists ≡ set listed.lists (number node) (list_at listed.lists (number node) ++ key ∷ []) → StandOnce listed_now.lists → AreListed now number listed_now
-  AreListed-pushed now listed_now key node vacant updates len capacity within count lists once =
+module _ (nodes now : Slab Node) (listed listed_now : NodeLists) (sound : AreListed nodes listed) (key q : ℕ) where
+  -- A new node joins a list.
+  pub AreListed-pushed : (node : Node) → get nodes key ≡ None → Updates nodes now key (Some node) → slab_len now ≡ slab_len nodes + 1 → now.capacity ≡ nodes.capacity → q < length listed.lists → listed_now.nodes ≡ listed.nodes → listed_now.lists ≡ set listed.lists q (list_at listed.lists q ++ key ∷ []) → StandOnce listed_now.lists → AreListed now listed_now
+  AreListed-pushed node vacant updates len capacity within count lists once =
       record {
-        listed_at = λ i n. (there i n, back i n);
+        all = λ n. (there n, back n);
         once = once;
-        counted = rw lists (omega (arith, len, sound.counted, sum_by-set length listed.lists q grown [] within, length_push (list_at listed.lists q) key));
+        counted = rw lists (omega (arith, len, sound.counted, pushed-count listed.lists q key within));
         keys = omega (arith, sound.keys);
         keys_fit = omega (arith, sound.keys_fit);
       }
     where
-      q : ℕ
-      q = number node
-      grown : List ℕ
-      grown = list_at listed.lists q ++ key ∷ []
-      there : (i n : ℕ) → Contains (list_at listed_now.lists i) n → option_map number (get now n) ≡ Some i
-      there i n stands =
-          elim (replaced-there listed.lists q grown i n within (subst (λ ls. Contains (list_at ls i) n) lists stands)) [
-            | inl here ↦
-                elim (Contains-push_cases (list_at listed.lists q) key n here.1) [
-                  | inl old ↦ still i n (subst (λ t. Contains (list_at listed.lists t) n) (sym here.0) old)
-                  | inr same ↦ ap (λ t. option_map number (get now t)) (sym same) ∙ ap (option_map number) updates.changed ∙ ap Some (sym here.0)
-                ]
-            | inr elsewhere ↦ still i n elsewhere.1
+      there : (n : ℕ) → IsInSome listed_now.lists n → ContainsKey now n
+      there n stands =
+          elim (pushed-there listed.lists q key within stands.0 n (subst (λ ls. Contains (list_at ls stands.0) n) lists stands.1)) [
+            | inl old ↦
+                let was : ContainsKey nodes n = (sound.all n).0 (stands.0, old) in
+                let differs : n ≢ key = λ same. not_both (get nodes n) (ap (get nodes) same ∙ vacant) was in
+                subst IsSome (sym (updates.others n differs)) was
+            | inr own ↦ at_key now n node (ap (get now) (sym own.1) ∙ updates.changed)
           ]
-        where
-          still : (i n : ℕ) → Contains (list_at listed.lists i) n → option_map number (get now n) ≡ Some i
-          still i n old =
-              let found = listed-node i n old in
-              let differs : n ≢ key = λ same. let clash : None ≡ Some found.0 = sym vacant ∙ ap (get nodes) (sym same) ∙ found.1 in absurd (cc) in
-              ap (option_map number) (updates.others n differs) ∙ (sound.listed_at i n).0 old
-      back : (i n : ℕ) → option_map number (get now n) ≡ Some i → Contains (list_at listed_now.lists i) n
-      back i n is =
-          subst (λ ls. Contains (list_at ls i) n) (sym lists) (
+      back : (n : ℕ) → ContainsKey now n → IsInSome listed_now.lists n
+      back n present =
+          subst (λ ls. IsInSome ls n) (sym lists) (
               elim (cases_eq n key) [
-                | inl same ↦
-                    let own : Some q ≡ Some i = ap (option_map number) (sym updates.changed) ∙ ap (λ t. option_map number (get now t)) (sym same) ∙ is in
-                    let at : i ≡ q = cc in
-                    replaced-here listed.lists q grown i n within at (subst (Contains grown) (sym same) (Contains-push (list_at listed.lists q) key))
+                | inl same ↦ (q, subst (Contains (list_at (set listed.lists q (list_at listed.lists q ++ key ∷ [])) q)) (sym same) (pushed-own listed.lists q key within))
                 | inr differs ↦
-                    let old : Contains (list_at listed.lists i) n = (sound.listed_at i n).1 (ap (option_map number) (sym (updates.others n differs)) ∙ is) in
-                    elim (cases_eq i q) [
-                      | inl at ↦ replaced-here listed.lists q grown i n within at (Contains-append_left (list_at listed.lists q) (key ∷ []) n (subst (λ t. Contains (list_at listed.lists t) n) at old))
-                      | inr other ↦ replaced-other listed.lists q grown i n other old
-                    ]
+                    let old : IsInSome listed.lists n = (sound.all n).1 (subst IsSome (updates.others n differs) present) in
+                    (old.0, pushed-still listed.lists q key within old.0 n old.1)
               ]
           )
+
+  pub AreOfHolders-pushed : (node : Node) → node.holder ≡ q → get nodes key ≡ None → Updates nodes now key (Some node) → q < length listed.lists → listed_now.lists ≡ set listed.lists q (list_at listed.lists q ++ key ∷ []) → AreOfHolders nodes listed.lists → AreOfHolders now listed_now.lists
+  AreOfHolders-pushed node is_holder vacant updates within lists of_holders h n stands =
+      elim (pushed-there listed.lists q key within h n (subst (λ ls. Contains (list_at ls h) n) lists stands)) [
+        | inl old ↦
+            let was : ContainsKey nodes n = (sound.all n).0 (h, old) in
+            let differs : n ≢ key = λ same. not_both (get nodes n) (ap (get nodes) same ∙ vacant) was in
+            ap (option_map (λ m. m.holder)) (updates.others n differs) ∙ of_holders h n old
+        | inr own ↦ ap (option_map (λ m. m.holder)) (ap (get now) (sym own.1) ∙ updates.changed) ∙ ap Some (is_holder ∙ sym own.0)
+      ]
 
   -- A node leaves the list in which it stands.
-  pub AreListed-removed : (now : Slab Node) (listed_now : NodeLists) (key q : ℕ) (us vs : List ℕ) → list_at listed.lists q ≡ us ++ key ∷ vs → Updates nodes now key None → slab_len now + 1 ≡ slab_len nodes → now.capacity ≡ nodes.capacity → listed_now.nodes ≡ listed.nodes → listed_now.lists ≡ set listed.lists q (us ++ vs) → StandOnce listed_now.lists → AreListed now number listed_now
-  AreListed-removed now listed_now key q us vs split updates len capacity count lists once =
+  pub AreListed-removed : (us vs : List ℕ) → list_at listed.lists q ≡ us ++ key ∷ vs → Updates nodes now key None → slab_len now + 1 ≡ slab_len nodes → now.capacity ≡ nodes.capacity → listed_now.nodes ≡ listed.nodes → listed_now.lists ≡ set listed.lists q (us ++ vs) → StandOnce listed_now.lists → AreListed now listed_now
+  AreListed-removed us vs split updates len capacity count lists once =
       record {
-        listed_at = λ i n. (there i n, back i n);
+        all = λ n. (there n, back n);
         once = once;
-        counted =
-            let whole : length (list_at listed.lists q) ≡ length (us ++ key ∷ vs) = ap length split in
-            rw lists (omega (arith, len, sound.counted, sum_by-set length listed.lists q (us ++ vs) [] within, whole, length-append us (key ∷ vs), length-append us vs));
+        counted = rw lists (omega (arith, len, sound.counted, removed-count listed.lists sound.once q key us vs split));
         keys = omega (arith, sound.keys);
         keys_fit = omega (arith, sound.keys_fit);
       }
     where
-      stood : Contains (list_at listed.lists q) key
-      stood = subst (λ xs. Contains xs key) (sym split) (Contains-append_right us (key ∷ vs) key (Contains-here key vs))
-      within : q < length listed.lists
-      within = list_within listed.lists q key stood
-      whole_once : IsOnceIn (us ++ key ∷ vs)
-      whole_once = subst IsOnceIn split (once_in listed.lists sound.once q)
-      still : (i n : ℕ) → Contains (list_at listed.lists i) n → n ≢ key → option_map number (get now n) ≡ Some i
-      still i n old differs = ap (option_map number) (updates.others n differs) ∙ (sound.listed_at i n).0 old
-      regrouped : us ++ key ∷ vs ≡ (us ++ key ∷ []) ++ vs
-      regrouped = sym (append_assoc us (key ∷ []) vs)
-      not_key : (n : ℕ) → Contains (us ++ vs) n → n ≢ key
-      not_key n rest same =
-          elim (Contains-append_cases us vs n rest) [
-            | inl front ↦ parts_apart us (key ∷ vs) key whole_once (subst (Contains us) same front) (Contains-here key vs)
-            | inr behind ↦ parts_apart (us ++ key ∷ []) vs key (subst IsOnceIn regrouped whole_once) (Contains-push us key) (subst (Contains vs) same behind)
-          ]
-      widened : (n : ℕ) → Contains (us ++ vs) n → Contains (list_at listed.lists q) n
-      widened n rest =
-          subst (λ xs. Contains xs n) (sym split) (
-              elim (Contains-append_cases us vs n rest) [
-                | inl front ↦ Contains-append_left us (key ∷ vs) n front
-                | inr behind ↦ Contains-append_right us (key ∷ vs) n (Contains-later key n vs behind)
-              ]
-          )
-      narrowed : (n : ℕ) → n ≢ key → Contains (us ++ key ∷ vs) n → Contains (us ++ vs) n
-      narrowed n differs all =
-          elim (Contains-append_cases us (key ∷ vs) n all) [
-            | inl front ↦ Contains-append_left us vs n front
-            | inr behind ↦
-                elim (Contains-append_cases (key ∷ []) vs n behind) [
-                  | inl own ↦ absurd (differs (sym (only own)))
-                  | inr later ↦ Contains-append_right us vs n later
-                ]
-          ]
-        where
-          only : Contains (key ∷ []) n → key ≡ n
-          only own = let first : own.0 ≡ 0 = omega (arith, own.1) in sym (ap (λ k. get_or (key ∷ []) k n) first) ∙ own.2
-      there : (i n : ℕ) → Contains (list_at listed_now.lists i) n → option_map number (get now n) ≡ Some i
-      there i n stands =
-          elim (replaced-there listed.lists q (us ++ vs) i n within (subst (λ ls. Contains (list_at ls i) n) lists stands)) [
-            | inl here ↦ still i n (subst (λ t. Contains (list_at listed.lists t) n) (sym here.0) (widened n here.1)) (not_key n here.1)
-            | inr elsewhere ↦ still i n elsewhere.1 (λ same. elsewhere.0 (one_list listed.lists sound.once i q key (subst (Contains (list_at listed.lists i)) same elsewhere.1) stood))
-          ]
-      back : (i n : ℕ) → option_map number (get now n) ≡ Some i → Contains (list_at listed_now.lists i) n
-      back i n is =
-          let differs : n ≢ key = λ same. let clash : None ≡ Some i = ap (option_map number) (sym updates.changed) ∙ ap (λ t. option_map number (get now t)) (sym same) ∙ is in absurd (cc) in
-          let old : Contains (list_at listed.lists i) n = (sound.listed_at i n).1 (ap (option_map number) (sym (updates.others n differs)) ∙ is) in
-          subst (λ ls. Contains (list_at ls i) n) (sym lists) (
-              elim (cases_eq i q) [
-                | inl at ↦ replaced-here listed.lists q (us ++ vs) i n within at (narrowed n differs (subst (λ xs. Contains xs n) split (subst (λ t. Contains (list_at listed.lists t) n) at old)))
-                | inr other ↦ replaced-other listed.lists q (us ++ vs) i n other old
-              ]
-          )
+      there : (n : ℕ) → IsInSome listed_now.lists n → ContainsKey now n
+      there n stands =
+          let old = removed-there listed.lists sound.once q key us vs split stands.0 n (subst (λ ls. Contains (list_at ls stands.0) n) lists stands.1) in
+          subst IsSome (sym (updates.others n old.1)) ((sound.all n).0 (stands.0, old.0))
+      back : (n : ℕ) → ContainsKey now n → IsInSome listed_now.lists n
+      back n present =
+          let differs : n ≢ key = λ same. not_both (get now n) (ap (get now) same ∙ updates.changed) present in
+          let old : IsInSome listed.lists n = (sound.all n).1 (subst IsSome (updates.others n differs) present) in
+          subst (λ ls. IsInSome ls n) (sym lists) (old.0, removed-still listed.lists sound.once q key us vs split old.0 n differs old.1)
+
+  pub AreOfHolders-removed : (us vs : List ℕ) → list_at listed.lists q ≡ us ++ key ∷ vs → Updates nodes now key None → listed_now.lists ≡ set listed.lists q (us ++ vs) → AreOfHolders nodes listed.lists → AreOfHolders now listed_now.lists
+  AreOfHolders-removed us vs split updates lists of_holders h n stands =
+      let old = removed-there listed.lists sound.once q key us vs split h n (subst (λ ls. Contains (list_at ls h) n) lists stands) in
+      ap (option_map (λ m. m.holder)) (updates.others n old.1) ∙ of_holders h n old.0
 
 module _ (nodes : Slab Node) (by_queue by_holder : NodeLists) (most : ℕ) (sound : IsSound nodes by_queue by_holder most) where
   -- a link in a queue's list says what its node has
-  pub link-node : (q : ℕ) (link : Link) → Contains (list_at (queues_in nodes by_queue.lists) q) link → (node : Node) × (get nodes link.node ≡ Some node) × (node.queue ≡ q) × (node.holder ≡ link.holder) × (node.value ≡ link.value)
+  pub link-node : (q : ℕ) (link : Link) → Contains (list_at (queues_in nodes by_queue.lists) q) link → (node : Node) × (get nodes link.node ≡ Some node) × (node.holder ≡ link.holder) × (node.value ≡ link.value)
   link-node q link stands =
       let at = Contains-map (link_of nodes) (list_at by_queue.lists q) link (subst (λ xs. Contains xs link) (list_at-map (link_of nodes) by_queue.lists q) stands) in
-      let found = listed-node nodes (λ node. node.queue) by_queue sound.queued q at.0 at.1 in
+      let found = node_at nodes at.0 ((sound.queued.all at.0).0 (q, at.1)) in
       let number : at.0 ≡ link.node = ap (λ l. l.node) at.2 in (
         found.0,
         ap (get nodes) (sym number) ∙ found.1,
-        found.2,
         ap holder_in (sym found.1) ∙ ap (λ l. l.holder) at.2,
         ap value_in (sym found.1) ∙ ap (λ l. l.value) at.2,
       )
 
-  -- and each node has its link there
-  pub node-link : (n : ℕ) (node : Node) → get nodes n ≡ Some node → Contains (list_at (queues_in nodes by_queue.lists) node.queue) (record { node = n; holder = node.holder; value = node.value })
+  -- and each node has its link in some queue's list
+  pub node-link : (n : ℕ) (node : Node) → get nodes n ≡ Some node → (q : ℕ) × Contains (list_at (queues_in nodes by_queue.lists) q) (record { node = n; holder = node.holder; value = node.value })
   node-link n node is =
-      let listed = node-listed nodes (λ node. node.queue) by_queue sound.queued n node is in
-      let link : link_of nodes n ≡ record { node = n; holder = node.holder; value = node.value } = ap (λ o. record { node = n; holder = holder_in o; value = value_in o }) is in
-      subst (λ xs. Contains xs (record { node = n; holder = node.holder; value = node.value })) (sym (list_at-map (link_of nodes) by_queue.lists node.queue)) (
-          subst (Contains (map (link_of nodes) (list_at by_queue.lists node.queue))) link (map-Contains (link_of nodes) (list_at by_queue.lists node.queue) n listed)
-      )
+      let listed = (sound.queued.all n).1 (at_key nodes n node is) in
+      let own : Link = record { node = n; holder = node.holder; value = node.value } in
+      let link : link_of nodes n ≡ own = ap (λ o. record { node = n; holder = holder_in o; value = value_in o }) is in
+      let mapped = map-Contains (link_of nodes) (list_at by_queue.lists listed.0) n listed.1 in
+      (listed.0, subst (λ xs. Contains xs own) (sym (list_at-map (link_of nodes) by_queue.lists listed.0)) (subst (Contains (map (link_of nodes) (list_at by_queue.lists listed.0))) link mapped))
 
-  pub linked-node : (n : ℕ) → IsLinked (lists_of nodes by_queue by_holder most) n → (node : Node) × (get nodes n ≡ Some node)
-  linked-node n linked =
-      let found = link-node linked.queue linked.link linked.stands in
-      (found.0, ap (get nodes) (sym linked.is) ∙ found.1)
+  -- each node stands in its holder's list
+  pub node-held : (n : ℕ) (node : Node) → get nodes n ≡ Some node → Contains (list_at by_holder.lists node.holder) n
+  node-held n node is =
+      let listed = (sound.held.all n).1 (at_key nodes n node is) in
+      let holder : Some node.holder ≡ Some listed.0 = ap (option_map (λ m. m.holder)) (sym is) ∙ sound.of_holders listed.0 n listed.1 in
+      let same : listed.0 ≡ node.holder = cc in
+      subst (λ h. Contains (list_at by_holder.lists h) n) same listed.1
 
   pub linked-key : (n : ℕ) → IsLinked (lists_of nodes by_queue by_holder most) n → ContainsKey nodes n
-  linked-key n linked = subst IsSome (sym (linked-node n linked).1) refl
+  linked-key n linked =
+      let found = link-node linked.queue linked.link linked.stands in
+      at_key nodes n found.0 (ap (get nodes) (sym linked.is) ∙ found.1)
 
-  pub node-linked : (n : ℕ) (node : Node) → get nodes n ≡ Some node → IsLinked (lists_of nodes by_queue by_holder most) n
-  node-linked n node is = record { queue = node.queue; link = record { node = n; holder = node.holder; value = node.value }; stands = node-link n node is; is = refl }
+  pub key-linked : (n : ℕ) → ContainsKey nodes n → IsLinked (lists_of nodes by_queue by_holder most) n
+  key-linked n present =
+      let found = node_at nodes n present in
+      let stands = node-link n found.0 found.1 in
+      record { queue = stands.0; link = record { node = n; holder = found.0.holder; value = found.0.value }; stands = stands.1; is = refl }
 
   pub HoldSameNodes-sound : HoldSameNodes (lists_of nodes by_queue by_holder most)
   HoldSameNodes-sound =
       record {
         held = λ q link stands.
             let found = link-node q link stands in
-            subst (λ h. Contains (list_at by_holder.lists h) link.node) found.3 (node-listed nodes (λ node. node.holder) by_holder sound.held link.node found.0 found.1);
+            subst (λ h. Contains (list_at by_holder.lists h) link.node) found.2 (node-held link.node found.0 found.1);
         queued = λ h n stands.
-            let found = listed-node nodes (λ node. node.holder) by_holder sound.held h n stands in
-            (found.0.queue, record { node = n; holder = found.0.holder; value = found.0.value }, node-link n found.0 found.1, refl, found.2);
+            let found = node_at nodes n ((sound.held.all n).0 (h, stands)) in
+            let link = node-link n found.0 found.1 in
+            let holder : Some found.0.holder ≡ Some h = ap (option_map (λ m. m.holder)) (sym found.1) ∙ sound.of_holders h n stands in
+            let same : found.0.holder ≡ h = cc in
+            (link.0, record { node = n; holder = found.0.holder; value = found.0.value }, link.1, refl, same);
         once_queued = subst StandOnce (sym (maps-back (link_of nodes) (λ link. link.node) by_queue.lists (λ n. refl))) sound.queued.once;
         once_held = sound.held.once;
       }
@@ -206,8 +167,7 @@ module _ (nodes : Slab Node) (by_queue by_holder : NodeLists) (most : ℕ) (soun
     where
       kept : (i n : ℕ) → Contains (list_at by_queue.lists i) n → link_of now n ≡ link_of nodes n
       kept i n stands =
-          let found = listed-node nodes (λ node. node.queue) by_queue sound.queued i n stands in
-          let differs : n ≢ key = λ same. let clash : None ≡ Some found.0 = sym vacant ∙ ap (get nodes) (sym same) ∙ found.1 in absurd (cc) in
+          let differs : n ≢ key = λ same. not_both (get nodes n) (ap (get nodes) same ∙ vacant) ((sound.queued.all n).0 (i, stands)) in
           ap (λ o. record { node = n; holder = holder_in o; value = value_in o }) (updates.others n differs)
 
   -- the queues' lists, where a node left one
@@ -240,3 +200,26 @@ HoldSameNodes-empty l queues holders no_queued no_held =
         let none : list_at lists p ≡ [] = ap (λ ls. list_at ls p) is ∙ list_at-replicate_nil n p in
         let clash : None ≡ Some m = ap (λ xs. slice_get xs i) (sym none) ∙ at_p in
         absurd (cc)
+
+-- A slab with nothing in it, and lists of nothing.
+pub AreListed-empty : (nodes : Slab Node) (listed : NodeLists) (count : ℕ) → nodes.slots ≡ [] → listed.lists ≡ replicate count [] → StandOnce listed.lists → nodes.capacity ≤ listed.nodes → listed.nodes < 2 ^ 32 → AreListed nodes listed
+AreListed-empty nodes listed count slots lists once keys keys_fit =
+    record {
+      all = λ n. (λ there. absurd (no_list n there), λ present. not_both (get nodes n) (ap (λ s. get_or s n None) slots) present);
+      once = once;
+      counted = ap (count_by is_some) slots ∙ sym (ap (sum_by length) lists ∙ sum_by-replicate length count [] ∙ mul-zero count);
+      keys = keys;
+      keys_fit = keys_fit;
+    }
+  where
+    no_list : (n : ℕ) → ¬ IsInSome listed.lists n
+    no_list n there =
+        let none : list_at listed.lists there.0 ≡ [] = ap (λ ls. list_at ls there.0) lists ∙ list_at-replicate_nil count there.0 in
+        let short : length (list_at listed.lists there.0) ≡ 0 = ap length none in
+        omega (arith, there.1.1)
+
+pub AreOfHolders-empty : (nodes : Slab Node) (lists : List (List ℕ)) (count : ℕ) → lists ≡ replicate count [] → AreOfHolders nodes lists
+AreOfHolders-empty nodes lists count is holder n stands =
+    let none : list_at lists holder ≡ [] = ap (λ ls. list_at ls holder) is ∙ list_at-replicate_nil count holder in
+    let short : length (list_at lists holder) ≡ 0 = ap length none in
+    absurd (omega (arith, stands.1))

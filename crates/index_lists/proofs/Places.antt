@@ -1,7 +1,6 @@
 -- Where a number stands in a list.
-use Rattle.std.proofs.Common.{◌≡◌, ◌≢◌, ◌⊎◌, ℕ, zero, suc, ◌+◌, ◌<◌, ◌≤◌, List, [], ◌∷◌, ◌++◌, length, Some, set, Contains, slice_get, refl, sym, ap, subst, ◌∙◌, inl, inr, arith, length-append}
-use Rattle.std.proofs.lemmas.Bool.{cases_eq}
-use Rattle.std.proofs.lemmas.List.{get_or-append-add, get_or-set_other, get_or-set_same, get_or_append_left, get_or_past}
+use Rattle.std.proofs.Common.{◌≡◌, ◌⊎◌, ℕ, zero, suc, ◌+◌, ◌<◌, ◌≤◌, List, [], ◌∷◌, ◌++◌, length, Some, Contains, slice_get, refl, ap, ◌∙◌, inl, inr, arith, length-append}
+use Rattle.std.proofs.lemmas.List.{get_or-append-add, get_or_append_left, get_or_past}
 use Rattle.std.proofs.lemmas.List.Elements.{Contains-append_right}
 use Rattle.std.proofs.lemmas.Option.{slice_get-get_or, slice_get_within, get_or_from_slice_get}
 use Rattle.index_lists.specs.Lists.{StandOnce, list_at}
@@ -63,22 +62,3 @@ list_within {X} lists i x stands = by_cases (cases_lt i (length lists))
     by_cases (inr past) =
         let short : length (list_at lists i) ≡ 0 = ap length (get_or_past lists i [] past) in
         absurd (omega (arith, stands.1))
-
--- what stands in the lists where one of them was replaced
-module _ {X : Type 0} (lists : List (List X)) (q : ℕ) (ys : List X) where
-  pub replaced-there : (i : ℕ) (x : X) → q < length lists → Contains (list_at (set lists q ys) i) x → ((i ≡ q) × Contains ys x) ⊎ ((i ≢ q) × Contains (list_at lists i) x)
-  replaced-there i x within stands =
-      elim (cases_eq i q) [
-        | inl same ↦
-            let here : list_at (set lists q ys) i ≡ ys = ap (list_at (set lists q ys)) same ∙ get_or-set_same lists q ys [] within in
-            inl (same, subst (λ xs. Contains xs x) here stands)
-        | inr differs ↦ inr (differs, subst (λ xs. Contains xs x) (get_or-set_other lists q i ys [] differs) stands)
-      ]
-
-  pub replaced-here : (i : ℕ) (x : X) → q < length lists → i ≡ q → Contains ys x → Contains (list_at (set lists q ys) i) x
-  replaced-here i x within same stands =
-      let here : list_at (set lists q ys) i ≡ ys = ap (list_at (set lists q ys)) same ∙ get_or-set_same lists q ys [] within in
-      subst (λ xs. Contains xs x) (sym here) stands
-
-  pub replaced-other : (i : ℕ) (x : X) → i ≢ q → Contains (list_at lists i) x → Contains (list_at (set lists q ys) i) x
-  replaced-other i x differs stands = subst (λ xs. Contains xs x) (sym (get_or-set_other lists q i ys [] differs)) stands

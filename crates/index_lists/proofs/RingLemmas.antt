@@ -228,12 +228,13 @@ module _ (nodes : ℕ) (next previous : List ℕ) (lists : List (List ℕ)) (rin
 -- lists of nothing, where each number is its own neighbour
 pub rings-empty : (nodes count : ℕ) (next previous : List ℕ) → length next ≡ nodes + count → length previous ≡ nodes + count → ((n : ℕ) → n < nodes + count → get_or next n 0 ≡ n) → ((n : ℕ) → n < nodes + count → get_or previous n 0 ≡ n) → AreRings nodes next previous (replicate count [])
 rings-empty nodes count next previous nexts previouses own_next own_previous =
-    let none : (i : ℕ) → list_at (replicate count []) i ≡ [] = list_at-replicate_nil count in
+    let none : (i : ℕ) → list_at {X = ℕ} (replicate count []) i ≡ [] = list_at-replicate_nil count in
+    let long : length (replicate {A = List ℕ} count []) ≡ count = length-replicate count [] in
     record {
-      nexts = omega (arith, length-replicate {A = List ℕ} count []);
-      previouses = omega (arith, length-replicate {A = List ℕ} count []);
+      nexts = omega (arith, long);
+      previouses = omega (arith, long);
       ring = λ i within.
-          let inside : nodes + i < nodes + count = omega (arith, length-replicate {A = List ℕ} count []) in
+          let inside : nodes + i < nodes + count = omega (arith, long) in
           subst (λ xs. IsPath next previous (nodes + i) xs (nodes + i)) (sym (none i)) (own_next (nodes + i) inside, own_previous (nodes + i) inside);
       below = λ i. subst (AreBelow nodes) (sym (none i)) (λ x there. absurd (omega (arith, there.1)));
       short = λ i. subst (λ xs. length xs ≤ nodes) (sym (none i)) (omega arith);

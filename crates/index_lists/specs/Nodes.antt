@@ -1,8 +1,8 @@
 -- How the nodes of `Links` and its two families of lists go together. No public clause cites this module.
 use Rattle.std.specs.Prelude.{◌≡◌, ℕ, ◌<◌, ◌≤◌, ◌^◌, ◌↔◌, List, map, length, Contains, Option, Some, None, option_map, sum_by}
-use Rattle.slab.specs.Slab.{Slab, get, slab_len}
+use Rattle.slab.specs.Slab.{ContainsKey, Slab, get, slab_len}
 use Rattle.index_lists.specs.Lists.{Link, Lists, StandOnce, list_at}
-use Rattle.index_lists.specs.Rings.{NodeLists}
+use Rattle.index_lists.specs.Rings.{IsInSome, NodeLists}
 use Rattle.index_lists.specs.declared.links.Node.{Node}
 
 abbrev pub holder_in : Option Node → ℕ
@@ -24,16 +24,21 @@ queues_in nodes lists = map (map (link_of nodes)) lists
 abbrev pub lists_of : Slab Node → NodeLists → NodeLists → ℕ → Lists
 lists_of nodes by_queue by_holder most = record { queues = queues_in nodes by_queue.lists; holders = by_holder.lists; nodes = most }
 
--- Just the nodes that the slab has stand in the lists, each once and in that of its own number.
-pub record AreListed (nodes : Slab Node) (number : Node → ℕ) (listed : NodeLists) : Type 0 where
-  pub listed_at : (i n : ℕ) → Contains (list_at listed.lists i) n ↔ (option_map number (get nodes n) ≡ Some i)
+-- Just the nodes that the slab has stand in the lists, each once.
+pub record AreListed (nodes : Slab Node) (listed : NodeLists) : Type 0 where
+  pub all : (n : ℕ) → IsInSome listed.lists n ↔ ContainsKey nodes n
   pub once : StandOnce listed.lists
   pub counted : slab_len nodes ≡ sum_by length listed.lists
   pub keys : nodes.capacity ≤ listed.nodes
   pub keys_fit : listed.nodes < 2 ^ 32
 
+-- A holder's list has nodes of this holder.
+abbrev pub AreOfHolders : Slab Node → List (List ℕ) → Type 0
+AreOfHolders nodes lists = (holder n : ℕ) → Contains (list_at lists holder) n → option_map (λ node. node.holder) (get nodes n) ≡ Some holder
+
 pub record IsSound (nodes : Slab Node) (by_queue by_holder : NodeLists) (most : ℕ) : Type 0 where
-  pub queued : AreListed nodes (λ node. node.queue) by_queue
-  pub held : AreListed nodes (λ node. node.holder) by_holder
+  pub queued : AreListed nodes by_queue
+  pub held : AreListed nodes by_holder
+  pub of_holders : AreOfHolders nodes by_holder.lists
   pub few : slab_len nodes ≤ most
   pub room : most ≤ nodes.capacity

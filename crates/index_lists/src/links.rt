@@ -22,7 +22,6 @@ pub struct Links {
 
 #[derive(Drop)]
 struct Node {
-    queue: u32,
     holder: u32,
     value: u64,
 }
@@ -83,11 +82,7 @@ impl Links {
         if self.linked() == self.most {
             return None;
         }
-        let node = self.nodes.insert_reserved(Node {
-            queue,
-            holder,
-            value,
-        });
+        let node = self.nodes.insert_reserved(Node { holder, value });
         self.by_queue.append(queue as usize, node);
         self.by_holder.append(holder as usize, node);
         Some(node as u32)
@@ -144,6 +139,7 @@ impl Links {
         ensures holders { (holder : ℕ) (before after : List ℕ)
             → held_by self.old holder ≡ before ++ node ∷ after
             → self.new.holders ≡ slice_set self.old.holders holder (before ++ after) }
+        ensures sizes { (length self.new.queues ≡ length self.old.queues) × (length self.new.holders ≡ length self.old.holders) }
         ensures nodes { self.new.nodes ≡ self.old.nodes }
         ensures freed { ¬ IsLinked self.new node }
         ensures same { HoldSameNodes self.new }

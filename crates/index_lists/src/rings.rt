@@ -111,6 +111,7 @@ impl Rings {
         ensures lists { (list : ℕ) (before after : List ℕ)
             → list_at self.old.lists list ≡ before ++ node ∷ after
             → self.new.lists ≡ slice_set self.old.lists list (before ++ after) }
+        ensures count { length self.new.lists ≡ length self.old.lists }
         ensures once { StandOnce self.new.lists }
     {
         let before = self.neighbours.previous[node];

@@ -1,7 +1,7 @@
 use Rattle.std.proofs.Common.{◌≡◌, Some, sym, ap, subst, ◌∙◌}
 use Rattle.slab.specs.Slab.{get}
 use Rattle.index_lists.specs.Lists.{IsLinked}
-use Rattle.index_lists.proofs.NodeLemmas.{link-node, linked-key, node-listed}
+use Rattle.index_lists.proofs.NodeLemmas.{link-node, linked-key, node-held}
 use Rattle.index_lists.proofs.Places.{list_within}
 use Rattle.index_lists.proofs.links.Links.holder.Goals as goal
 
@@ -15,12 +15,12 @@ returns-clause-holder c =
             let found = link-node _ _ _ _ c.self.invariant queue link stands in
             let same : Some c.index.result.now ≡ Some found.0 = sym c.index.ensures ∙ ap (get c.self.inside.nodes) (sym is) ∙ found.1 in
             let node : c.index.result.now ≡ found.0 = cc in
-            ap (λ n. n.holder) node ∙ found.3
+            ap (λ n. n.holder) node ∙ found.2
     )
 
 pub returns-clause-held : goal.returns-clause-held
-returns-clause-held c = rw (← c.self.view_is) (node-listed c.self.inside.nodes (λ node. node.holder) c.self.inside.by_holder c.self.invariant.held c.args.node c.index.result.now c.index.ensures)
+returns-clause-held c = rw (← c.self.view_is) (node-held _ _ _ _ c.self.invariant c.args.node c.index.result.now c.index.ensures)
 
 pub returns-clause-in_range : goal.returns-clause-in_range
 returns-clause-in_range c =
-    rw (← c.self.view_is) (list_within c.self.inside.by_holder.lists c.index.result.now.holder c.args.node (node-listed c.self.inside.nodes (λ node. node.holder) c.self.inside.by_holder c.self.invariant.held c.args.node c.index.result.now c.index.ensures))
+    rw (← c.self.view_is) (list_within c.self.inside.by_holder.lists c.index.result.now.holder c.args.node (node-held _ _ _ _ c.self.invariant c.args.node c.index.result.now c.index.ensures))

@@ -14,5 +14,5 @@ returns c =
             let found = link-node _ _ _ _ c.self.invariant queue link stands in
             let same : Some c.index.result.now ≡ Some found.0 = sym c.index.ensures ∙ ap (get c.self.inside.nodes) (sym is) ∙ found.1 in
             let node : c.index.result.now ≡ found.0 = cc in
-            ap (λ n. n.value) node ∙ found.4
+            ap (λ n. n.value) node ∙ found.3
     )

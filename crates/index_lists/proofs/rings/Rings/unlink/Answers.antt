@@ -1,4 +1,4 @@
-use Rattle.std.proofs.Common.{◌≡◌, ℕ, ◌<◌, ◌++◌, ◌∷◌, List, get_or, set, sym, subst, arith}
+use Rattle.std.proofs.Common.{◌≡◌, ℕ, ◌<◌, ◌++◌, ◌∷◌, List, length, get_or, set, sym, ap, subst, ◌∙◌, arith, length-set}
 use Rattle.std.proofs.lemmas.List.{get_or_read}
 use Rattle.index_lists.specs.Lists.{list_at}
 use Rattle.index_lists.specs.Rings.{AreRings, IsInSome, NodeLists, lists_in}
@@ -28,7 +28,7 @@ join-requires-clause-before c =
     let there = in_some c.self.inside c.args.self.now c.args.node c.self.view_is c.requires in
     let below : c.args.node < c.self.inside.nodes = c.self.invariant.below there.0 c.args.node there.1 in
     let read : c.index-before.result.now ≡ get_or previous c.args.node 0 = get_or_read previous c.args.node _ (omega (arith, c.self.invariant.previouses)) c.index-before.ensures 0 in
-    let split = Contains-split _ c.args.node there.1 in
+    let split = Contains-split (list_at (lists_in c.self.inside.nodes c.self.inside.neighbours.next.items) there.0) c.args.node there.1 in
     omega (arith, read, c.self.invariant.nexts, before_inside c.self.inside.nodes _ _ _ c.self.invariant there.0 c.args.node split.0 split.1 split.2)
 
 pub join-requires-clause-after : goal.join-requires-clause-after
@@ -37,7 +37,7 @@ join-requires-clause-after c =
     let there = in_some c.self.inside c.args.self.now c.args.node c.self.view_is c.requires in
     let below : c.args.node < c.self.inside.nodes = c.self.invariant.below there.0 c.args.node there.1 in
     let read : c.index-after.result.now ≡ get_or next c.args.node 0 = get_or_read next c.args.node _ (omega (arith, c.self.invariant.nexts)) c.index-after.ensures 0 in
-    let split = Contains-split _ c.args.node there.1 in
+    let split = Contains-split (list_at (lists_in c.self.inside.nodes c.self.inside.neighbours.next.items) there.0) c.args.node there.1 in
     omega (arith, read, c.self.invariant.previouses, after_inside c.self.inside.nodes _ _ _ c.self.invariant there.0 c.args.node split.0 split.1 split.2)
 
 rings : (c : goal.After-join) (i : ℕ) (us vs : List ℕ) → list_at (lists_in c.self.inside.nodes c.self.inside.neighbours.next.items) i ≡ us ++ c.args.node ∷ vs → AreRings c.self.inside.nodes c.join.new.self.next.items c.join.new.self.previous.items (set (lists_in c.self.inside.nodes c.self.inside.neighbours.next.items) i (us ++ vs))
@@ -58,7 +58,7 @@ rings c i us vs split =
 pub invariant_of-self : goal.invariant_of-self
 invariant_of-self c =
     let there = in_some c.self.inside c.args.self.now c.args.node c.self.view_is c.requires in
-    let split = Contains-split _ c.args.node there.1 in
+    let split = Contains-split (list_at (lists_in c.self.inside.nodes c.self.inside.neighbours.next.items) there.0) c.args.node there.1 in
     let changed = rings c there.0 split.0 split.1 split.2 in
     subst (AreRings c.self.inside.nodes c.join.new.self.next.items c.join.new.self.previous.items) (sym (lists_in-rings _ _ _ _ changed)) changed
 
@@ -67,3 +67,9 @@ returns-clause-lists c = rw (← c.self.view_is) (λ i us vs split. lists_in-rin
 
 pub returns-clause-once : goal.returns-clause-once
 returns-clause-once c = StandOnce-rings _ _ _ _ (invariant_of-self c)
+
+pub returns-clause-count : goal.returns-clause-count
+returns-clause-count c =
+    let there = in_some c.self.inside c.args.self.now c.args.node c.self.view_is c.requires in
+    let split = Contains-split (list_at (lists_in c.self.inside.nodes c.self.inside.neighbours.next.items) there.0) c.args.node there.1 in
+    rw (← c.self.view_is) (ap length (lists_in-rings _ _ _ _ (rings c there.0 split.0 split.1 split.2)) ∙ length-set _ _ _)

@@ -85,7 +85,11 @@ impl Rings {
         ensures node { IfSome result (λ node. node < self.now.nodes) }
     {
         let first = self.neighbours.next[self.nodes + list];
-        if first < self.nodes { Some(first) } else { None }
+        if first < self.nodes {
+            Some(first)
+        } else {
+            None
+        }
     }
 
     /// Puts a node at the end of a list.

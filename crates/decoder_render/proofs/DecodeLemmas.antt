@@ -1,0 +1,64 @@
+-- What the slices of a picture come to.
+use Rattle.std.proofs.Common.{◌≡◌, ℕ, ◌-◌, ◌<◌, ◌≤◌, List, length, take, Option, refl, sym, ap, ◌∙◌, subst, arith}
+use Rattle.std.proofs.lemmas.List.{length-take-le, take_all}
+use Rattle.cb_types.specs.SizeMbs.{macroblocks}
+use Rattle.cb_types.specs.declared.mark.MbMark.{MbMark}
+use Rattle.cb_types.specs.declared.picture_info.PictureInfo.{PictureInfo}
+use Rattle.cb_types.specs.declared.size.SizeMbs.{SizeMbs}
+use Rattle.deblock.specs.Deblocked.{deblocked_chroma, deblocked_luma}
+use Rattle.recon.specs.References.{AreHeld}
+use Rattle.vd_plane.specs.Picture.{HasSize}
+use Rattle.vd_plane.specs.Tiles.{ShowsTiles}
+use Rattle.vd_plane.specs.declared.picture.Picture.{Picture}
+use Rattle.vd_plane.specs.declared.tile.Tile.{Tile}
+use Rattle.decoder_render.specs.Coverage.{AreAccepted, given}
+use Rattle.decoder_render.specs.Outcomes.{IsFault, IsWhole, Lacks}
+use Rattle.decoder_render.specs.Parsed.{IsUnparsed, covered_by, first_header, start_of}
+use Rattle.decoder_render.specs.Submission.{payload_at}
+use Rattle.decoder_render.specs.declared.parsing.ParsedSlice.{ParsedSlice}
+use Rattle.decoder_render.proofs.CoverLemmas.{unparsed_refused}
+
+module _ (info : PictureInfo) (size : SizeMbs) (pictures : List (Option Picture)) (units : List (Option (List ℕ))) (slices : List ParsedSlice) (marks : List MbMark) (tiles : List Tile) (count : ℕ) where
+  module _ (of_tiles : length tiles ≡ macroblocks size) (of_marks : length marks ≡ macroblocks size) (inside : start_of slices count ≤ macroblocks size) (accepted : AreAccepted (given info size pictures) units count (covered_by slices marks tiles count)) where
+    so_many : length (take (start_of slices count) tiles) ≡ start_of slices count
+    so_many = length-take-le (start_of slices count) tiles (omega (arith, of_tiles, inside))
+
+    -- the unit behind those that are accepted has no slice
+    pub unit_fails : count < length units → IsUnparsed info size (first_header slices count) (start_of slices count) (payload_at units count) → IsFault (given info size pictures) units count
+    unit_fails within none = record {
+      within = within;
+      covered = covered_by slices marks tiles count;
+      before = accepted;
+      refused = unparsed_refused info size pictures (first_header slices count) (start_of slices count) (payload_at units count) (covered_by slices marks tiles count) refl so_many none;
+    }
+
+    -- all units are accepted, and macroblocks are missing
+    pub some_lack : (missing : ℕ) → count ≡ length units → 1 ≤ missing → missing ≡ macroblocks size - start_of slices count → Lacks (given info size pictures) units missing
+    some_lack missing all some is = record {
+      covered = covered_by slices marks tiles count;
+      accepted = subst (λ (n : ℕ). AreAccepted (given info size pictures) units n (covered_by slices marks tiles count)) all accepted;
+      some = some;
+      count = omega (arith, so_many, is, inside);
+    }
+
+    -- all units are accepted, and none is missing
+    pub all_there : count ≡ length units → start_of slices count ≡ macroblocks size → AreHeld info pictures → (made picture : Picture) → HasSize made size → ShowsTiles tiles size.width made
+        → picture.y ≡ deblocked_luma size marks made.y → picture.cb ≡ deblocked_chroma info.chroma_qp_index_offset size marks made.cb → picture.cr ≡ deblocked_chroma info.chroma_qp_index_offset size marks made.cr
+        → IsWhole (given info size pictures) units picture
+    all_there all full held made picture has shows y cb cr =
+        let same_marks : take (start_of slices count) marks ≡ marks = take_all (start_of slices count) marks (omega (arith, full, of_marks)) in
+        let same_tiles : take (start_of slices count) tiles ≡ tiles = take_all (start_of slices count) tiles (omega (arith, full, of_tiles)) in
+        record {
+          held = held;
+          covered = covered_by slices marks tiles count;
+          accepted = subst (λ (n : ℕ). AreAccepted (given info size pictures) units n (covered_by slices marks tiles count)) all accepted;
+          all = so_many ∙ full;
+          decoded = record {
+            constructed = made;
+            size = has;
+            shows = subst (λ (t : List Tile). ShowsTiles t size.width made) (sym same_tiles) shows;
+            y = y ∙ ap (λ (m : List MbMark). deblocked_luma size m made.y) (sym same_marks);
+            cb = cb ∙ ap (λ (m : List MbMark). deblocked_chroma info.chroma_qp_index_offset size m made.cb) (sym same_marks);
+            cr = cr ∙ ap (λ (m : List MbMark). deblocked_chroma info.chroma_qp_index_offset size m made.cr) (sym same_marks);
+          };
+        }

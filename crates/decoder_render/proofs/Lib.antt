@@ -1,0 +1,16 @@
+pub mod HeaderRanges
+pub mod ListPlaces
+pub mod MacroblockRanges
+pub mod MarkRanges
+pub mod Pieces
+pub mod UnitPlaces
+pub mod ParsedLemmas
+pub mod SameSlice
+pub mod ParseSlice
+pub mod CoverLemmas
+pub mod SliceRanges
+pub mod ConstructedLemmas
+pub mod StepLemmas
+pub mod SubmissionPayloads
+pub mod DecodeLemmas
+pub mod MemoryLemmas

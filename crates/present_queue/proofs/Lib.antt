@@ -3,6 +3,7 @@ pub mod Displayed
 pub mod FirstLinks
 pub mod HeldNodes
 pub mod HolderLemmas
+pub mod Made
 pub mod Steps
 pub mod Taken
 pub mod ViewLemmas

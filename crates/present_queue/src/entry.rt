@@ -5,6 +5,6 @@
 pub struct Entry {
     /// The surface's place among all objects ever made.
     pub object: u64,
-    /// The time, in nanoseconds, before which it isn't shown.
+    /// It isn't shown before this time, in nanoseconds (earliest_presentation_time).
     pub earliest: u64,
 }

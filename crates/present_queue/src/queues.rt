@@ -27,10 +27,11 @@ struct Kept {
     length: u32,
 }
 
-/// The presentation queues of a driver: 64, each with at most 64 entries.
+/// The presentation queues of a driver, by their numbers: 64 of them, with at most 64 entries each.
 ///
-/// A surface has a number in the queues, its holder, below 5,184. While it is queued or shown, the holder
-/// is its own and no other's.
+/// A surface is known by its object, its place among all objects ever made, and by its holder, a number
+/// below 5,184 that the caller gives it. While the surface is queued or shown, the holder is its own and no
+/// other's. What is asked of a holder is answered without a walk along any queue's list.
 #[derive(Drop)]
 pub struct Queues {
     // A list for each queue, with a node for each entry: its surface's holder and its earliest time.
@@ -69,7 +70,9 @@ impl Queues {
         })
     }
 
-    /// Puts an entry behind those of the queue, for the surface with this holder.
+    /// Puts an entry of the surface with this holder behind the queue's others. `QueueFull` says that
+    /// there are 64, else `EarlierThanPromise` that the entry's time is before the promise, which it
+    /// carries.
     pub fn display(&mut self, queue: u32, holder: u32, entry: Entry) -> Result<(), Refusal>
         requires queue { queue < 64 }
         requires holder { holder < 5184 }
@@ -101,7 +104,8 @@ impl Queues {
         Ok(())
     }
 
-    /// Shows the queue's oldest entry if its time has come, and answers it.
+    /// Takes the queue's oldest entry if its time has come, shows its surface, and answers it. The surface
+    /// shown before is let go.
     pub fn tick(&mut self, queue: u32, time: u64) -> Option<Entry>
         requires { queue < 64 }
         ensures entry { result ≡ option_map entry_of (due (queue_at self.old queue) time) }
@@ -142,7 +146,7 @@ impl Queues {
         some_shows(&self.kept, holder)
     }
 
-    /// The object of the surface that the queue shows.
+    /// The object of the surface that the queue shows, if it shows one.
     pub fn visible(&self, queue: u32) -> Option<u64>
         requires { queue < 64 }
         ensures { result ≡ option_map (λ surface. surface.object) (queue_at self.now queue).visible }
@@ -151,8 +155,8 @@ impl Queues {
         Some(self.objects[holder as usize])
     }
 
-    /// Promises that nothing is displayed on the queue any more with an earlier time than this. A lower
-    /// promise than before changes nothing.
+    /// Promises that no entry with an earlier time than this is displayed on the queue any more. A promise
+    /// never falls.
     pub fn promise(&mut self, queue: u32, time: u64)
         requires { queue < 64 }
         ensures { self.new ≡ slice_set self.old queue (promised (queue_at self.old queue) time) }
@@ -169,7 +173,7 @@ impl Queues {
         self.kept[queue as usize].promise
     }
 
-    /// Makes the queue as at first: no entries, nothing visible, promise 0.
+    /// Makes the queue as it was at first: no entries, nothing shown, promise 0.
     pub fn clear(&mut self, queue: u32)
         requires { queue < 64 }
         ensures { self.new ≡ slice_set self.old queue empty_queue }
@@ -178,7 +182,8 @@ impl Queues {
         self.kept[queue as usize] = Kept::NOTHING;
     }
 
-    /// The lists of nodes that the queues stand in.
+    /// The lists of nodes that the queues stand in: one node for each entry, with the holder of its surface
+    /// and its time.
     pub fn links(&self) -> &Links
         ensures { HasNodesOf result.now self.now }
     {

@@ -4,6 +4,7 @@ pub mod FirstLinks
 pub mod HeldNodes
 pub mod HolderLemmas
 pub mod Made
+pub mod NameLemmas
 pub mod Steps
 pub mod Taken
 pub mod ViewLemmas

@@ -1,5 +1,5 @@
 -- Whether a holder has a node says whether some queue's list has a node of that holder.
-use Rattle.std.proofs.Common.{◌≡◌, ℕ, zero, suc, ◌<◌, ◌≤◌, Bool, true, false, ◌||◌, eqb, List, [], ◌∷◌, length, get_or, map, Option, Some, None, refl, sym, ap, subst, ◌∙◌, inl, inr, eq-eqb, arith}
+use Rattle.std.proofs.Common.{◌≡◌, ℕ, zero, suc, ◌<◌, Bool, true, false, eqb, List, [], ◌∷◌, length, get_or, Option, Some, None, refl, sym, subst, inl, inr, eq-eqb, arith}
 use Rattle.std.specs.List.{Contains, list_any, slice_get}
 use Rattle.std.specs.Option.{is_some}
 use Rattle.std.proofs.lemmas.List.{get_or_default}
@@ -7,10 +7,10 @@ use Rattle.std.proofs.lemmas.Option.{get_or_from_slice_get, slice_get_within}
 use Rattle.std.proofs.lemmas.List.Folds.{list_any_at, list_any_none}
 use Rattle.std.proofs.lemmas.Bool.{cases_eq}
 use Rattle.std.proofs.lemmas.Bool.Decides.{nat_tests}
-use Rattle.index_lists.specs.Lists.{HoldSameNodes, Link, Lists, held_by, list_at, queue_of}
+use Rattle.index_lists.specs.Lists.{HoldSameNodes, Link, Lists, held_by, list_at}
 use Rattle.present_queue.specs.Queue.{holds, is_queued}
 use Rattle.present_queue.specs.Queues.{has_holder}
-use Rattle.present_queue.specs.Kept.{queue_with, queued_of, queues_with}
+use Rattle.present_queue.specs.Kept.{queue_with, queues_with}
 use Rattle.present_queue.specs.declared.queues.Kept.{Kept}
 
 abbrev has_holder_link : ℕ → Link → Bool

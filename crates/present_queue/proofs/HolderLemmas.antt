@@ -1,5 +1,5 @@
 -- A holder and its object pass for one another where the queues name them.
-use Rattle.std.proofs.Common.{◌≡◌, ◌≢◌, ℕ, zero, suc, ◌<◌, Bool, false, ◌||◌, eqb, List, [], ◌∷◌, length, get_or, set, map, Option, Some, None, option_map, refl, sym, ap, ◌∙◌, inl, inr, arith}
+use Rattle.std.proofs.Common.{◌≡◌, ◌≢◌, ℕ, suc, Bool, false, eqb, List, [], ◌∷◌, length, set, map, Option, Some, None, option_map, refl, sym, ap, ◌∙◌, inl, inr, arith}
 use Rattle.std.specs.List.{Contains, list_any, slice_index}
 use Rattle.std.specs.Option.{option_map_or}
 use Rattle.std.proofs.lemmas.Bool.{cases_eq}
@@ -8,7 +8,7 @@ use Rattle.std.proofs.lemmas.List.{get_or-set_other, set-get_or}
 use Rattle.index_lists.specs.Lists.{Link}
 use Rattle.present_queue.specs.Queue.{Names, Queue, Queued, holds, is_queued, is_shown, shows}
 use Rattle.present_queue.specs.Queues.{IsHolderOf, Surface, has_holder, is_object, queue_at}
-use Rattle.present_queue.specs.Kept.{queue_with, queued_of, queues_with, surface_of}
+use Rattle.present_queue.specs.Kept.{queued_of, queues_with, surface_of}
 use Rattle.present_queue.specs.declared.queues.Kept.{Kept}
 
 Contains-later : {X : Type 0} (x : X) (xs : List X) (y : X) → Contains xs y → Contains (x ∷ xs) y

@@ -1,7 +1,7 @@
 -- What is true of all queues is true of those that are made.
-use Rattle.std.proofs.Common.{◌≡◌, ℕ, zero, suc, ◌≤◌, List, [], ◌∷◌, length, get_or, replicate, Some, None, refl, ap, ◌∙◌, arith}
+use Rattle.std.proofs.Common.{◌≡◌, ℕ, zero, suc, List, [], length, get_or, replicate, Some, None, refl, ap, ◌∙◌, arith}
 use Rattle.std.proofs.lemmas.List.{length-replicate}
-use Rattle.index_lists.specs.Lists.{Link, Lists}
+use Rattle.index_lists.specs.Lists.{Lists}
 use Rattle.present_queue.specs.Kept.{IsSound, nothing_kept}
 use Rattle.present_queue.specs.declared.queues.Kept.{Kept}
 

@@ -1,10 +1,9 @@
 -- For callers: which surfaces the queues name after a step.
-use Rattle.std.proofs.Common.{◌≡◌, ◌⊎◌, ℕ, zero, suc, ◌+◌, ◌<◌, cond, leb, true, false, Bool, List, [], ◌∷◌, ◌++◌, length, get_or, set, map, replicate, Option, Some, None, refl, sym, ap, subst, ◌∙◌, inl, inr, arith}
+use Rattle.std.proofs.Common.{◌≡◌, ◌⊎◌, ℕ, zero, suc, cond, leb, true, false, Bool, List, [], ◌∷◌, set, map, replicate, Option, Some, None, refl, subst, inl, inr, arith}
 use Rattle.std.specs.List.{Contains}
-use Rattle.std.proofs.lemmas.Bool.{cases_eq}
-use Rattle.std.proofs.lemmas.List.{get_or-set_other, get_or-set_same, map_push, set_past}
+use Rattle.std.proofs.lemmas.List.{map_push}
 use Rattle.std.proofs.lemmas.List.Elements.{Contains-push_cases}
-use Rattle.present_queue.specs.Queue.{Names, Queue, Queued, displayed, due, empty_queue, first_due, promised, ticked, ticked_by}
+use Rattle.present_queue.specs.Queue.{Names, Queue, Queued, displayed, empty_queue, promised, ticked, ticked_by}
 use Rattle.present_queue.specs.Queues.{Surface, queue_at}
 
 module _ {S : Type 0} (s : S) where

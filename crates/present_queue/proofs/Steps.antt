@@ -1,9 +1,9 @@
 -- What is true of all queues stays true where one queue changes, and what the steps make of a queue.
-use Rattle.std.proofs.Common.{◌≡◌, ◌≢◌, ℕ, suc, ◌+◌, ◌<◌, ◌≤◌, true, false, cond, leb, List, [], ◌∷◌, ◌++◌, length, get_or, set, map, Option, Some, None, refl, sym, ap, ◌∙◌, inl, inr, arith}
+use Rattle.std.proofs.Common.{◌≡◌, ◌≢◌, ℕ, ◌<◌, ◌≤◌, true, false, cond, leb, List, [], ◌∷◌, ◌++◌, length, set, Some, None, refl, sym, ap, ◌∙◌, inl, inr, arith}
 use Rattle.std.proofs.lemmas.Bool.{cases_eq}
 use Rattle.std.proofs.lemmas.Bool.Decides.{nat_tests}
 use Rattle.std.proofs.lemmas.List.{get_or-set_other, get_or-set_same, length-set, map_push, set-get_or}
-use Rattle.index_lists.specs.Lists.{Link, Lists, list_at}
+use Rattle.index_lists.specs.Lists.{Link, Lists}
 use Rattle.present_queue.specs.Queue.{Queue, displayed, due, empty_queue, ticked, ticked_by}
 use Rattle.present_queue.specs.Queues.{Surface, queue_at}
 use Rattle.present_queue.specs.Kept.{IsSound, kept_at, nothing_kept, queue_with, queued_of}

@@ -1,7 +1,7 @@
 -- A tick that takes a queue's first node.
-use Rattle.std.proofs.Common.{◌≡◌, ℕ, suc, ◌-◌, ◌<◌, ◌≤◌, List, [], length, set, Some, option_map, refl, sym, ap, subst, ◌∙◌, arith}
+use Rattle.std.proofs.Common.{◌≡◌, ℕ, suc, ◌-◌, ◌<◌, ◌≤◌, List, length, set, Some, option_map, refl, sym, ap, ◌∙◌, arith}
 use Rattle.std.specs.List.{slice_index}
-use Rattle.index_lists.specs.Lists.{Link, Lists, list_at}
+use Rattle.index_lists.specs.Lists.{Lists, list_at}
 use Rattle.present_queue.specs.Queue.{Queue, due, ticked}
 use Rattle.present_queue.specs.Queues.{Surface, entry_of, queue_at}
 use Rattle.present_queue.specs.Kept.{IsSound, kept_at, queue_with, queues_with}

@@ -15,7 +15,13 @@ pub enum Answer {
     Promised(u64),
     Cleared,
     Linked(u32),
-    /// There is no such queue or surface.
+    /// No node is free to be linked.
+    AllLinked,
+    /// A node's value and its holder.
+    Node(u64, u32),
+    /// There is no node in that list.
+    NoNode,
+    /// There is no such queue, surface or holder.
     OutOfRange,
 }
 
@@ -34,7 +40,10 @@ impl fmt::Display for Answer {
             Answer::Promised(time) => write!(f, "promised {time}"),
             Answer::Cleared => write!(f, "cleared"),
             Answer::Linked(linked) => write!(f, "{linked} in all"),
-            Answer::OutOfRange => write!(f, "no such queue or surface"),
+            Answer::AllLinked => write!(f, "all nodes are linked"),
+            Answer::Node(value, holder) => node(*value, *holder, f),
+            Answer::NoNode => write!(f, "no node"),
+            Answer::OutOfRange => write!(f, "no such list"),
         }
     }
 }
@@ -43,4 +52,8 @@ fn taken<W: fmt::Write>(entry: Entry, f: &mut fmt::Formatter<W>) -> fmt::Result 
     let object = entry.object;
     let earliest = entry.earliest;
     write!(f, "object {object} of {earliest}")
+}
+
+fn node<W: fmt::Write>(value: u64, holder: u32, f: &mut fmt::Formatter<W>) -> fmt::Result {
+    write!(f, "value {value} of holder {holder}")
 }

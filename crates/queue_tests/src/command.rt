@@ -1,4 +1,5 @@
-// The lines that are calls.
+// The lines that are calls of `Queues`.
+use crate::numbers::{number, small};
 
 /// A call, with the numbers as they stand in the line.
 #[derive(Clone, Copy)]
@@ -84,12 +85,4 @@ impl Command {
             _ => None,
         }
     }
-}
-
-fn number(word: Option<&str>) -> Option<u64> {
-    word?.parse().ok()
-}
-
-fn small(word: Option<&str>) -> Option<u32> {
-    word?.parse().ok()
 }

@@ -1,35 +1,49 @@
-//! Presentation queues by hand: each line of standard input is a call of `present_queue`, and its answer a line of standard
-//! output. An empty line and one that begins with `#` is written as it is.
+//! Presentation queues by hand: each line of standard input is a call of `present_queue` or `index_lists`, and its answer a
+//! line of standard output. A line that is no call is written as it is.
 //!
 //!     display QUEUE SURFACE TIME     accepted, full, or earlier than the promise
 //!     fill QUEUE SURFACE TIME COUNT  so many of it, until one isn't accepted
 //!     flood SURFACE TIME             so many of it on every queue as there is room for
 //!     tick QUEUE TIME                what is shown from now on
 //!     status SURFACE                 visible, queued or idle
-//!     visible QUEUE                  the surface that is shown
+//!     visible QUEUE                  the object that is shown
 //!     promise QUEUE TIME             the promise from now on
 //!     clear QUEUE                    cleared
 //!     linked                         how many entries there are
+//!
+//!     links QUEUES HOLDERS NODES     new lists of nodes
+//!     push QUEUE HOLDER VALUE        how many nodes are linked now
+//!     first QUEUE, held HOLDER       the first node of a list
+//!     unlink QUEUE, release HOLDER   that node goes: how many are linked now
+//!     nodes                          how many are linked
 #![tactic(auto)]
 
 mod answer;
 mod command;
 mod desk;
+mod link_command;
+mod nodes;
+mod numbers;
 
 use command::Command;
 use desk::Desk;
+use link_command::LinkCommand;
+use nodes::Nodes;
 use std::io;
 
 fn main(rt: HostRuntime) -> io::Result<()> {
     let mut desk = Desk::new(rt.alloc())?;
+    let mut nodes = Nodes::new(rt.alloc(), 0, 0, 0)?;
     for line in rt.lines(rt.alloc()) {
         let line = line?;
-        match Command::read(line.as_str()) {
-            Some(command) => {
-                let answer = desk.answer(command);
-                println!(rt; "{answer}")?;
-            }
-            None => println!(rt; "{line}")?,
+        if let Some(command) = Command::read(line.as_str()) {
+            let answer = desk.answer(command);
+            println!(rt; "{answer}")?;
+        } else if let Some(command) = LinkCommand::read(line.as_str()) {
+            let answer = nodes.answer(rt.alloc(), command)?;
+            println!(rt; "{answer}")?;
+        } else {
+            println!(rt; "{line}")?;
         }
     }
     Ok(())

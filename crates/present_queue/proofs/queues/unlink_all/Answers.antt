@@ -1,4 +1,4 @@
-use Rattle.std.proofs.Common.{◌≡◌, ◌<◌, [], length, set, sym, ◌∙◌, arith}
+use Rattle.std.proofs.Common.{◌<◌, [], length, sym, ◌∙◌, arith}
 use Rattle.index_lists.specs.Lists.{queue_of}
 use Rattle.present_queue.proofs.FirstLinks.{BeginsWith-from_first, nil-from_first, set-set_rest, set_emptied, shorter}
 use Rattle.present_queue.proofs.queues.unlink_all.Goals as goal

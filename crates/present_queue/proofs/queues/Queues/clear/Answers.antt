@@ -1,4 +1,4 @@
-use Rattle.std.proofs.Common.{◌≡◌, [], refl, set, ap, ◌∙◌}
+use Rattle.std.proofs.Common.{[], set, ap, ◌∙◌}
 use Rattle.present_queue.specs.Kept.{nothing_kept, queues_with}
 use Rattle.present_queue.proofs.ViewLemmas.{view-set}
 use Rattle.present_queue.proofs.queues.Queues.clear.Goals as goal

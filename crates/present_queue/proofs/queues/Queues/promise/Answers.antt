@@ -1,4 +1,4 @@
-use Rattle.std.proofs.Common.{◌≡◌, refl, set, ap, sym, ◌∙◌}
+use Rattle.std.proofs.Common.{refl, set, ap, ◌∙◌}
 use Rattle.present_queue.proofs.ViewLemmas.{kept_read, queue_at-view, view-set_kept}
 use Rattle.present_queue.proofs.queues.Queues.promise.Goals as goal
 

@@ -1,4 +1,4 @@
-use Rattle.std.proofs.Common.{◌≡◌, ap, sym, ◌∙◌}
+use Rattle.std.proofs.Common.{ap, sym, ◌∙◌}
 use Rattle.present_queue.proofs.ViewLemmas.{kept_read, queue_at-view}
 use Rattle.present_queue.proofs.queues.Queues.promised.Goals as goal
 

@@ -1,14 +1,12 @@
-use Rattle.std.proofs.Common.{◌≡◌, suc, set, ◌-◌, ◌<◌, ◌≤◌, [], length, Some, None, option_map, refl, sym, ap, ◌∙◌, arith}
-use Rattle.std.specs.List.{slice_index}
-use Rattle.std.proofs.lemmas.List.{get_or_read}
+use Rattle.std.proofs.Common.{◌≡◌, set, ◌<◌, [], None, option_map, sym, ap, ◌∙◌, arith}
 use Rattle.index_lists.specs.Lists.{list_at}
-use Rattle.present_queue.specs.Queue.{due, ticked}
+use Rattle.present_queue.specs.Queue.{due}
 use Rattle.present_queue.specs.Queues.{entry_of, queue_at}
-use Rattle.present_queue.specs.Kept.{kept_at, queues_with}
+use Rattle.present_queue.specs.Kept.{kept_at}
 use Rattle.present_queue.proofs.FirstLinks.{BeginsWith, BeginsWith-from_first, Contains-first, nil-from_first}
-use Rattle.present_queue.proofs.Steps.{IsSound-changed, is_due, not_due, nothing_due, ticked-is_due, unticked}
+use Rattle.present_queue.proofs.Steps.{not_due, nothing_due, unticked}
 use Rattle.present_queue.proofs.Taken.{IsSound-taken, entry-taken, view-taken}
-use Rattle.present_queue.proofs.ViewLemmas.{kept_read, object_read, queue_at-view, view-set}
+use Rattle.present_queue.proofs.ViewLemmas.{kept_read, object_read, queue_at-view}
 use Rattle.present_queue.proofs.queues.Queues.tick.Goals as goal
 
 none_at_all : (c : goal.After-from_residual) → due (queue_at c.args.self.now c.args.queue) c.args.time ≡ None

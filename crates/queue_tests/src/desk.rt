@@ -3,16 +3,16 @@ ghost use Rattle.std.specs.Prelude.{◌<◌};
 ghost use Rattle.queue_tests.specs.Tied.{IsTied};
 
 use crate::answer::Answer;
-use crate::command::Command;
+use crate::line::Line;
 use present_queue::{Entry, Queues};
 use std::alloc::{AllocError, Global};
 use vd_status::Refusal;
 
-const QUEUES: u32 = 64;
+const QUEUES: u64 = 64;
 
-const MAX_ENTRIES: u32 = 64;
+const MAX_ENTRIES: u64 = 64;
 
-const SURFACES: u32 = 5_184;
+const SURFACES: u64 = 5_184;
 
 /// Queues on which the surface of each number is displayed as one object, under the number as its holder.
 #[derive(Drop)]
@@ -27,36 +27,29 @@ impl Desk {
         Ok(Desk { queues })
     }
 
-    /// Makes a call.
-    pub fn answer(&mut self, command: Command) -> Answer {
-        match command {
-            Command::Display {
-                queue,
-                surface,
-                time,
-            } => self.fill(queue, surface, time, 1),
-            Command::Fill {
-                queue,
-                surface,
-                time,
-                count,
-            } => self.fill(queue, surface, time, count),
-            Command::Flood { surface, time } => self.flood(surface, time),
-            Command::Tick { queue, time } => self.tick(queue, time),
-            Command::Status { surface } => self.status(surface),
-            Command::Visible { queue } => self.visible(queue),
-            Command::Promise { queue, time } => self.promise(queue, time),
-            Command::Clear { queue } => self.clear(queue),
-            Command::Linked => Answer::Linked(self.queues.linked()),
+    /// Makes a call, if the line is one.
+    pub fn call(&mut self, line: Line<'_>) -> Option<Answer> {
+        let [first, second, third, fourth] = line.numbers;
+        match line.name {
+            "display" => Some(self.fill(first, second, third, 1)),
+            "fill" => Some(self.fill(first, second, third, fourth)),
+            "flood" => Some(self.flood(first, second)),
+            "tick" => Some(self.tick(first, second)),
+            "status" => Some(self.status(first)),
+            "visible" => Some(self.visible(first)),
+            "promise" => Some(self.promise(first, second)),
+            "clear" => Some(self.clear(first)),
+            "linked" => Some(Answer::Linked(self.queues.linked())),
+            _ => None,
         }
     }
 
-    fn fill(&mut self, queue: u32, surface: u32, time: u64, count: u32) -> Answer {
+    fn fill(&mut self, queue: u64, surface: u64, time: u64, count: u64) -> Answer {
         if queue >= QUEUES || surface >= SURFACES {
             return Answer::OutOfRange;
         }
         for _ in 0..count {
-            if let Err(refusal) = self.display(queue, surface, time) {
+            if let Err(refusal) = self.display(queue as u32, surface as u32, time) {
                 return Answer::Displayed(Err(refusal), self.queues.linked());
             }
         }
@@ -74,47 +67,50 @@ impl Desk {
         self.queues.display(queue, surface, entry)
     }
 
-    fn flood(&mut self, surface: u32, time: u64) -> Answer {
+    fn flood(&mut self, surface: u64, time: u64) -> Answer {
         for queue in 0..QUEUES {
             self.fill(queue, surface, time, MAX_ENTRIES);
         }
         Answer::Linked(self.queues.linked())
     }
 
-    fn tick(&mut self, queue: u32, time: u64) -> Answer {
+    fn tick(&mut self, queue: u64, time: u64) -> Answer {
         if queue >= QUEUES {
             return Answer::OutOfRange;
         }
-        Answer::Taken(self.queues.tick(queue, time))
+        Answer::Taken(self.queues.tick(queue as u32, time))
     }
 
-    fn status(&self, surface: u32) -> Answer {
+    fn status(&self, surface: u64) -> Answer {
         if surface >= SURFACES {
             return Answer::OutOfRange;
         }
-        Answer::Status(self.queues.shown(surface), self.queues.queued(surface))
+        Answer::Status(
+            self.queues.shown(surface as u32),
+            self.queues.queued(surface as u32),
+        )
     }
 
-    fn visible(&self, queue: u32) -> Answer {
+    fn visible(&self, queue: u64) -> Answer {
         if queue >= QUEUES {
             return Answer::OutOfRange;
         }
-        Answer::Visible(self.queues.visible(queue))
+        Answer::Visible(self.queues.visible(queue as u32))
     }
 
-    fn promise(&mut self, queue: u32, time: u64) -> Answer {
+    fn promise(&mut self, queue: u64, time: u64) -> Answer {
         if queue >= QUEUES {
             return Answer::OutOfRange;
         }
-        self.queues.promise(queue, time);
-        Answer::Promised(self.queues.promised(queue))
+        self.queues.promise(queue as u32, time);
+        Answer::Promised(self.queues.promised(queue as u32))
     }
 
-    fn clear(&mut self, queue: u32) -> Answer {
+    fn clear(&mut self, queue: u64) -> Answer {
         if queue >= QUEUES {
             return Answer::OutOfRange;
         }
-        self.queues.clear(queue);
+        self.queues.clear(queue as u32);
         Answer::Cleared
     }
 }

@@ -11,7 +11,7 @@
 //!     clear QUEUE                    cleared
 //!     linked                         how many entries there are
 //!
-//!     links QUEUES HOLDERS NODES     new lists of nodes
+//!     links QUEUES HOLDERS NODES     new lists of nodes, at most 100 of each
 //!     push QUEUE HOLDER VALUE        how many nodes are linked now
 //!     first QUEUE, held HOLDER       the first node of a list
 //!     unlink QUEUE, release HOLDER   that node goes: how many are linked now
@@ -19,32 +19,36 @@
 #![tactic(auto)]
 
 mod answer;
-mod command;
 mod desk;
-mod link_command;
+mod line;
 mod nodes;
-mod numbers;
 
-use command::Command;
 use desk::Desk;
-use link_command::LinkCommand;
+use line::Line;
 use nodes::Nodes;
 use std::io;
 
 fn main(rt: HostRuntime) -> io::Result<()> {
     let mut desk = Desk::new(rt.alloc())?;
     let mut nodes = Nodes::new(rt.alloc(), 0, 0, 0)?;
-    for line in rt.lines(rt.alloc()) {
-        let line = line?;
-        if let Some(command) = Command::read(line.as_str()) {
-            let answer = desk.answer(command);
+    for text in rt.lines(rt.alloc()) {
+        let text = text?;
+        let line = Line::read(text.as_str());
+        if line.name == "links" {
+            let [queues, holders, count, _] = line.numbers;
+            nodes = Nodes::new(rt.alloc(), few(queues), few(holders), few(count))?;
+        }
+        if let Some(answer) = desk.call(line) {
             println!(rt; "{answer}")?;
-        } else if let Some(command) = LinkCommand::read(line.as_str()) {
-            let answer = nodes.answer(rt.alloc(), command)?;
+        } else if let Some(answer) = nodes.call(line) {
             println!(rt; "{answer}")?;
         } else {
-            println!(rt; "{line}")?;
+            println!(rt; "{text}")?;
         }
     }
     Ok(())
+}
+
+fn few(number: u64) -> u32 {
+    number.min(100) as u32
 }

@@ -4,7 +4,7 @@ ghost use Rattle.std.specs.Option.{ForSome};
 ghost use Rattle.index_lists.specs.Lists.{IsLinked};
 
 use crate::answer::Answer;
-use crate::link_command::LinkCommand;
+use crate::line::Line;
 use index_lists::Links;
 use std::alloc::{AllocError, Global};
 
@@ -27,55 +27,45 @@ impl Nodes {
         })
     }
 
-    /// Makes a call.
-    pub fn answer(&mut self, alloc: Global, command: LinkCommand) -> Result<Answer, AllocError> {
-        match command {
-            LinkCommand::Links {
-                queues,
-                holders,
-                nodes,
-            } => {
-                *self = Nodes::new(alloc, queues, holders, nodes)?;
-                Ok(Answer::Linked(self.links.linked()))
-            }
-            LinkCommand::Push {
-                queue,
-                holder,
-                value,
-            } => Ok(self.push(queue, holder, value)),
-            LinkCommand::First { queue } => Ok(self.told(self.first(queue))),
-            LinkCommand::Held { holder } => Ok(self.told(self.held(holder))),
-            LinkCommand::Unlink { queue } => Ok(self.unlink(self.first(queue))),
-            LinkCommand::Release { holder } => Ok(self.unlink(self.held(holder))),
-            LinkCommand::Nodes => Ok(Answer::Linked(self.links.linked())),
+    /// Makes a call, if the line is one.
+    pub fn call(&mut self, line: Line<'_>) -> Option<Answer> {
+        let [first, second, third, _] = line.numbers;
+        match line.name {
+            "push" => Some(self.push(first, second, third)),
+            "first" => Some(self.told(self.first(first))),
+            "held" => Some(self.told(self.held(first))),
+            "unlink" => Some(self.unlink(self.first(first))),
+            "release" => Some(self.unlink(self.held(first))),
+            "nodes" => Some(Answer::Linked(self.links.linked())),
+            _ => None,
         }
     }
 
-    fn push(&mut self, queue: u32, holder: u32, value: u64) -> Answer {
-        if queue >= self.queues || holder >= self.holders {
+    fn push(&mut self, queue: u64, holder: u64, value: u64) -> Answer {
+        if queue >= u64::from(self.queues) || holder >= u64::from(self.holders) {
             return Answer::OutOfRange;
         }
-        match self.links.push(queue, holder, value) {
+        match self.links.push(queue as u32, holder as u32, value) {
             Some(_) => Answer::Linked(self.links.linked()),
             None => Answer::AllLinked,
         }
     }
 
-    fn first(&self, queue: u32) -> Option<u32>
+    fn first(&self, queue: u64) -> Option<u32>
         ensures { IfSome result (IsLinked self.now.links) }
     {
-        if queue < self.queues {
-            self.links.first(queue)
+        if queue < u64::from(self.queues) {
+            self.links.first(queue as u32)
         } else {
             None
         }
     }
 
-    fn held(&self, holder: u32) -> Option<u32>
+    fn held(&self, holder: u64) -> Option<u32>
         ensures { IfSome result (IsLinked self.now.links) }
     {
-        if holder < self.holders {
-            self.links.held(holder)
+        if holder < u64::from(self.holders) {
+            self.links.held(holder as u32)
         } else {
             None
         }

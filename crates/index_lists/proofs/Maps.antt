@@ -50,6 +50,7 @@ maps-back {X} {Y} f g lists back = all lists
     one : (xs : List X) → map g (map f xs) ≡ xs
     one [] = refl
     one (x ∷ xs) = let here = back x in let later = one xs in cc
+
     all : (lists : List (List X)) → map (map g) (map (map f) lists) ≡ lists
     all [] = refl
     all (xs ∷ lists) = let here = one xs in let later = all lists in cc

@@ -48,15 +48,16 @@ module _ (nodes now : Slab Node) (listed listed_now : NodeLists) (sound : AreLis
                 subst IsSome (sym (updates.others n differs)) was
             | inr own ↦ at_key now n node (ap (get now) (sym own.1) ∙ updates.changed)
           ]
+
       back : (n : ℕ) → ContainsKey now n → IsInSome listed_now.lists n
       back n present =
           subst (λ ls. IsInSome ls n) (sym lists) (
-              elim (cases_eq n key) [
-                | inl same ↦ (q, subst (Contains (list_at (set listed.lists q (list_at listed.lists q ++ key ∷ [])) q)) (sym same) (pushed-own listed.lists q key within))
-                | inr differs ↦
-                    let old : IsInSome listed.lists n = (sound.all n).1 (subst IsSome (updates.others n differs) present) in
-                    (old.0, pushed-still listed.lists q key within old.0 n old.1)
-              ]
+          elim (cases_eq n key) [
+            | inl same ↦ (q, subst (Contains (list_at (set listed.lists q (list_at listed.lists q ++ key ∷ [])) q)) (sym same) (pushed-own listed.lists q key within))
+            | inr differs ↦
+                let old : IsInSome listed.lists n = (sound.all n).1 (subst IsSome (updates.others n differs) present) in
+                (old.0, pushed-still listed.lists q key within old.0 n old.1)
+          ]
           )
 
   pub AreOfHolders-pushed : (node : Node) → node.holder ≡ q → get nodes key ≡ None → Updates nodes now key (Some node) → q < length listed.lists → listed_now.lists ≡ set listed.lists q (list_at listed.lists q ++ key ∷ []) → AreOfHolders nodes listed.lists → AreOfHolders now listed_now.lists
@@ -84,6 +85,7 @@ module _ (nodes now : Slab Node) (listed listed_now : NodeLists) (sound : AreLis
       there n stands =
           let old = removed-there listed.lists sound.once q key us vs split stands.0 n (subst (λ ls. Contains (list_at ls stands.0) n) lists stands.1) in
           subst IsSome (sym (updates.others n old.1)) ((sound.all n).0 (stands.0, old.0))
+
       back : (n : ℕ) → ContainsKey now n → IsInSome listed_now.lists n
       back n present =
           let differs : n ≢ key = λ same. not_both (get now n) (ap (get now) same ∙ updates.changed) present in
@@ -195,6 +197,7 @@ HoldSameNodes-empty l queues holders no_queued no_held =
   where
     nothing : {X : Type 0} (x : X) → ¬ Contains [] x
     nothing x there = omega (arith, there.1)
+
     once : (n : ℕ) (lists : List (List ℕ)) → lists ≡ replicate n [] → StandOnce lists
     once n lists is p q i j m at_p at_q =
         let none : list_at lists p ≡ [] = ap (λ ls. list_at ls p) is ∙ list_at-replicate_nil n p in

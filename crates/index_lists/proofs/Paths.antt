@@ -24,7 +24,7 @@ module _ (next previous : List ℕ) where
               | inl first ↦ (0, omega arith, sym first)
               | inr later ↦ Contains-later u (get_or previous x 0) us later
             ]
-        ),
+            ),
         rest.1,
       )
 

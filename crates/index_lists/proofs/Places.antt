@@ -57,6 +57,7 @@ list_within {X} lists i x stands = by_cases (cases_lt i (length lists))
   where
     cases_lt : (a b : ℕ) → (a < b) ⊎ (b ≤ a)
     cases_lt a b = grind arith
+
     by_cases : (i < length lists) ⊎ (length lists ≤ i) → i < length lists
     by_cases (inl within) = within
     by_cases (inr past) =

@@ -87,6 +87,7 @@ module _ (nodes : ℕ) (next previous : List ℕ) (lists : List (List ℕ)) (rin
     where
       here : list_at (set lists i ys) i ≡ ys
       here = get_or-set_same lists i ys [] within
+
       there : (j : ℕ) → j ≢ i → list_at (set lists i ys) j ≡ list_at lists j
       there j differs = get_or-set_other lists i j ys [] differs
 
@@ -127,11 +128,11 @@ module _ (nodes : ℕ) (next previous : List ℕ) (lists : List (List ℕ)) (rin
         (omega (arith, length-set (set previous n last) end n, length-set previous n last))
         (path_joined (set (set next last n) n end) (set (set previous n last) end n) end xs n [] end front (after, back))
         (
-            λ j inside differs.
-                let apart_last = other_ring i j last differs last_there.0 in
-                let not_node : nodes + j ≢ n = λ same. omega (arith, can.is_node) in
-                let not_end : nodes + j ≢ end = λ same. differs (omega arith) in
-                path_kept (set next last n) (set previous n last) n end end n (nodes + j) (list_at lists j) (nodes + j) not_node (no_node j) (no_end j) not_end (path_kept next previous last n n last (nodes + j) (list_at lists j) (nodes + j) apart_last.0 apart_last.1 (no_node j) not_node (rings.ring j inside))
+        λ j inside differs.
+        let apart_last = other_ring i j last differs last_there.0 in
+        let not_node : nodes + j ≢ n = λ same. omega (arith, can.is_node) in
+        let not_end : nodes + j ≢ end = λ same. differs (omega arith) in
+        path_kept (set next last n) (set previous n last) n end end n (nodes + j) (list_at lists j) (nodes + j) not_node (no_node j) (no_end j) not_end (path_kept next previous last n n last (nodes + j) (list_at lists j) (nodes + j) apart_last.0 apart_last.1 (no_node j) not_node (rings.ring j inside))
         )
         (λ m stands. elim (Contains-push_cases xs n m stands) [ inl before ↦ rings.below i m before | inr same ↦ omega (arith, can.is_node) ])
         (omega (arith, length_push xs n, can.short))
@@ -140,6 +141,7 @@ module _ (nodes : ℕ) (next previous : List ℕ) (lists : List (List ℕ)) (rin
   module _ (i x : ℕ) (us vs : List ℕ) (split : list_at lists i ≡ us ++ x ∷ vs) where
     abbrev before_it : ℕ
     before_it = get_or previous x 0
+
     abbrev after_it : ℕ
     after_it = get_or next x 0
 
@@ -178,6 +180,7 @@ module _ (nodes : ℕ) (next previous : List ℕ) (lists : List (List ℕ)) (rin
 
     abbrev now_next : List ℕ
     now_next = set next before_it after_it
+
     abbrev now_previous : List ℕ
     now_previous = set previous after_it before_it
 
@@ -199,13 +202,13 @@ module _ (nodes : ℕ) (next previous : List ℕ) (lists : List (List ℕ)) (rin
         let no_more : ¬ Contains ws after_it = λ there. parts_apart (us ++ x ∷ y ∷ []) ws after_it (subst IsOnceIn regrouped whole) (Contains-append_right us (x ∷ y ∷ []) after_it (1, omega arith, sym back.0)) there in
         let below_y : y < nodes = rings.below i y (in_back y (subst (λ zs. Contains zs y) (sym is) (Contains-here y ws))) in
         let not_before : (n : ℕ) → n < nodes → Contains (x ∷ y ∷ ws) n → n ≢ before_it = λ n below there same.
-            elim before_there.0 [
-              | inl own ↦ omega arith
-              | inr earlier ↦ parts_apart us (x ∷ y ∷ ws) n whole (subst (Contains us) (sym same) earlier) there
-            ] in
+        elim before_there.0 [
+          | inl own ↦ omega arith
+          | inr earlier ↦ parts_apart us (x ∷ y ∷ ws) n whole (subst (Contains us) (sym same) earlier) there
+        ] in
         let no_before : ¬ Contains ws before_it = λ there.
-            let below : before_it < nodes = rings.below i before_it (in_back before_it (subst (λ zs. Contains zs before_it) (sym is) (Contains-later y before_it ws there))) in
-            not_before before_it below (Contains-later x before_it (y ∷ ws) (Contains-later y before_it ws there)) refl in
+        let below : before_it < nodes = rings.below i before_it (in_back before_it (subst (λ zs. Contains zs before_it) (sym is) (Contains-later y before_it ws there))) in
+        not_before before_it below (Contains-later x before_it (y ∷ ws) (Contains-later y before_it ws there)) refl in
         let from_y : y ≢ before_it = not_before y below_y (Contains-later x y (y ∷ ws) (Contains-here y ws)) in
         let to_own : nodes + i ≢ after_it = λ same. omega (arith, back.0) in
         path_joined now_next now_previous (nodes + i) us y ws (nodes + i) front (path_kept next previous before_it after_it after_it before_it y ws (nodes + i) from_y no_before no_more to_own back.2)

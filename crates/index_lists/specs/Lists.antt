@@ -7,7 +7,7 @@ pub record Link : Type 0 where
   pub holder : ℕ
   pub value : ℕ
 
--- each queue's list, in order; each holder's nodes, in the order in which they were linked; and how many nodes there are in all
+-- each queue's list, in order; each holder's nodes, in the order in which they were linked; and how many may be linked
 pub record Lists : Type 0 where
   pub queues : List (List Link)
   pub holders : List (List ℕ)

@@ -10,13 +10,15 @@ use std::marker::Model;
 /// A list of nodes for each queue and one for each holder. Each linked node stands in a queue's list
 /// and in a holder's at once, and has a value.
 ///
-/// Queues, holders and nodes go by numbers, those of queues and holders from 0 on.
+/// Queues, holders and nodes go by numbers, those of queues and holders from 0 on. No call but `new`
+/// takes memory, and none walks along a list.
 #[derive(Drop)]
 pub struct Links {
-    // By the numbers of the linked nodes.
+    // The linked nodes, each under its number.
     nodes: Slab<Node>,
     by_queue: Rings,
     by_holder: Rings,
+    // So many may be linked at a time.
     most: u32,
 }
 
@@ -39,8 +41,8 @@ impl Model for Links {
 }
 
 impl Links {
-    /// So many empty lists of queues and of holders, and so many nodes to link. This takes all the
-    /// memory that linking will need.
+    /// So many empty lists of queues and of holders, and so many nodes to link. It takes all the memory
+    /// that linking will need.
     pub fn new(alloc: Global, queues: u32, holders: u32, nodes: u32) -> Result<Links, AllocError>
         ensures queues { IfOk result (λ links. links.queues ≡ replicate queues []) }
         ensures holders { IfOk result (λ links. links.holders ≡ replicate holders []) }
@@ -49,7 +51,7 @@ impl Links {
     {
         let slots = Slab::with_capacity(alloc, nodes as usize)?;
         let keys = slots.capacity();
-        // A node's number is a key as a `u32`.
+        // Each key is below the capacity, and a node's number is its key as a `u32`.
         if keys > u32::MAX as usize {
             return Err(AllocError);
         }
@@ -91,7 +93,8 @@ impl Links {
     /// The first node of the queue's list.
     pub fn first(&self, queue: u32) -> Option<u32>
         requires { queue < length self.now.queues }
-        ensures first { result ≡ option_map (λ link. link.node) (slice_get (queue_of self.now queue) 0) }
+        ensures first { result
+            ≡ option_map (λ link. link.node) (slice_get (queue_of self.now queue) 0) }
         ensures linked { IfSome result (IsLinked self.now) }
     {
         let node = self.by_queue.first(queue as usize)?;
@@ -139,7 +142,8 @@ impl Links {
         ensures holders { (holder : ℕ) (before after : List ℕ)
             → held_by self.old holder ≡ before ++ node ∷ after
             → self.new.holders ≡ slice_set self.old.holders holder (before ++ after) }
-        ensures sizes { (length self.new.queues ≡ length self.old.queues) × (length self.new.holders ≡ length self.old.holders) }
+        ensures sizes { (length self.new.queues ≡ length self.old.queues)
+            × (length self.new.holders ≡ length self.old.holders) }
         ensures nodes { self.new.nodes ≡ self.old.nodes }
         ensures freed { ¬ IsLinked self.new node }
         ensures same { HoldSameNodes self.new }

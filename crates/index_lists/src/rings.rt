@@ -39,7 +39,8 @@ impl Neighbours {
 // So many numbers, each with itself for its neighbour.
 fn alone(alloc: Global, count: usize) -> Result<Vec<usize>, AllocError>
     ensures count { IfOk result (λ numbers. length numbers.items ≡ count) }
-    ensures alone { IfOk result (λ numbers. (n : ℕ) → n < count → slice_index numbers.items n ≡ n) }
+    ensures alone { IfOk result (λ numbers. (n : ℕ) → n < count
+        → slice_index numbers.items n ≡ n) }
 {
     let mut numbers = Vec::with_capacity(alloc, count)?;
     for number in 0..count {
@@ -85,7 +86,11 @@ impl Rings {
         ensures node { IfSome result (λ node. node < self.now.nodes) }
     {
         let first = self.neighbours.next[self.nodes + list];
-        if first < self.nodes { Some(first) } else { None }
+        if first < self.nodes {
+            Some(first)
+        } else {
+            None
+        }
     }
 
     /// Puts a node at the end of a list.
@@ -95,7 +100,8 @@ impl Rings {
         requires unlinked { ¬ IsInSome self.old.lists node }
         requires short { length (list_at self.old.lists list) < self.old.nodes }
         ensures nodes { self.new.nodes ≡ self.old.nodes }
-        ensures lists { self.new.lists ≡ slice_set self.old.lists list (list_at self.old.lists list ++ node ∷ []) }
+        ensures lists { self.new.lists
+            ≡ slice_set self.old.lists list (list_at self.old.lists list ++ node ∷ []) }
         ensures once { StandOnce self.new.lists }
     {
         let end = self.nodes + list;

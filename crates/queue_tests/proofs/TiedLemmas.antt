@@ -1,9 +1,9 @@
 -- Each step leaves every surface tied to its object.
-use Rattle.std.proofs.Common.{◌≡◌, ℕ, ◌+◌, List, replicate, set, Result, Ok, Err, refl, sym, ap, subst, ◌∙◌, inl, inr, arith}
+use Rattle.std.proofs.Common.{◌≡◌, ℕ, ◌+◌, List, replicate, set, Result, Ok, Err, sym, ap, subst, ◌∙◌, inl, inr, arith}
 use Rattle.std.specs.Result.{OnErr, OnOk}
 use Rattle.vd_status.specs.declared.refusal.Refusal.{Refusal}
 use Rattle.present_queue.specs.declared.entry.Entry.{Entry}
-use Rattle.present_queue.specs.Queue.{Names, Queue, Queued, displayed, empty_queue, promised, ticked}
+use Rattle.present_queue.specs.Queue.{Names, Queue, displayed, empty_queue, promised, ticked}
 use Rattle.present_queue.specs.Queues.{IsHolderOf, Surface, queue_at, queued_by}
 use Rattle.present_queue.proofs.NameLemmas.{Names-displayed, Names-empty, Names-promised, Names-set, Names-ticked, queue_at-empty}
 use Rattle.queue_tests.specs.Tied.{IsTied}

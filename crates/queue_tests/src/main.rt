@@ -23,9 +23,11 @@ mod desk;
 mod line;
 mod nodes;
 
+use answer::Answer;
 use desk::Desk;
 use line::Line;
 use nodes::Nodes;
+use std::alloc::{AllocError, Global};
 use std::io;
 
 fn main(rt: HostRuntime) -> io::Result<()> {
@@ -34,19 +36,29 @@ fn main(rt: HostRuntime) -> io::Result<()> {
     for text in rt.lines(rt.alloc()) {
         let text = text?;
         let line = Line::read(text.as_str());
-        if line.name == "links" {
-            let [queues, holders, count, _] = line.numbers;
-            nodes = Nodes::new(rt.alloc(), few(queues), few(holders), few(count))?;
-        }
-        if let Some(answer) = desk.call(line) {
-            println!(rt; "{answer}")?;
-        } else if let Some(answer) = nodes.call(line) {
-            println!(rt; "{answer}")?;
-        } else {
-            println!(rt; "{text}")?;
+        match called(rt.alloc(), &mut desk, &mut nodes, line)? {
+            Some(answer) => println!(rt; "{answer}")?,
+            None => println!(rt; "{text}")?,
         }
     }
     Ok(())
+}
+
+fn called(
+    alloc: Global,
+    desk: &mut Desk,
+    nodes: &mut Nodes,
+    line: Line<'_>,
+) -> Result<Option<Answer>, AllocError> {
+    if line.name == "links" {
+        let [queues, holders, count, _] = line.numbers;
+        *nodes = Nodes::new(alloc, few(queues), few(holders), few(count))?;
+        return Ok(None);
+    }
+    match desk.call(line) {
+        Some(answer) => Ok(Some(answer)),
+        None => Ok(nodes.call(line)),
+    }
 }
 
 fn few(number: u64) -> u32 {

@@ -38,8 +38,8 @@ returns-clause-free c = λ linked. not_both _ c.insert_reserved-node.ensures.was
 pub returns-clause-queues : goal.returns-clause-queues
 returns-clause-queues c =
     rw (← c.self.view_is) (
-        ap (queues_in c.insert_reserved-node.new.self) c.append.ensures.lists
-        ∙ queues-pushed _ _ _ _ c.self.invariant c.insert_reserved-node.new.self c.insert_reserved-node.result c.args.queue _ c.insert_reserved-node.ensures.was_vacant c.insert_reserved-node.ensures.updates
+    ap (queues_in c.insert_reserved-node.new.self) c.append.ensures.lists
+    ∙ queues-pushed _ _ _ _ c.self.invariant c.insert_reserved-node.new.self c.insert_reserved-node.result c.args.queue _ c.insert_reserved-node.ensures.was_vacant c.insert_reserved-node.ensures.updates
     )
 
 pub returns-clause-same : goal.returns-clause-same

@@ -37,17 +37,17 @@ invariant_of-self c =
 pub returns-clause-queues : goal.returns-clause-queues
 returns-clause-queues c =
     rw (← c.self.view_is) (
-        λ queue before after link split is.
-            let nodes = c.self.inside.nodes in
-            let lists = c.self.inside.by_queue.lists in
-            let parts = map-split (link_of nodes) (list_at lists queue) before link after (sym (list_at-map (link_of nodes) lists queue) ∙ split) in
-            let number : parts.1 ≡ c.args.node = ap (λ l. l.node) parts.5 ∙ is in
-            let stood : list_at lists queue ≡ parts.0 ++ c.args.node ∷ parts.2 = parts.3 ∙ ap (λ n. parts.0 ++ n ∷ parts.2) number in
-            let left = c.unlink.ensures.lists queue parts.0 parts.2 stood in
-            let gone : (i : ℕ) → ¬ Contains (list_at c.unlink.new.self.lists i) c.args.node = λ i stands. not_both _ c.remove.ensures.updates.changed (((invariant_of-self c).queued.all c.args.node).0 (i, stands)) in
-            ap (queues_in c.remove.new.self) left
-            ∙ queues-removed _ _ _ _ c.self.invariant c.remove.new.self c.args.node queue parts.0 parts.2 c.remove.ensures.updates (λ i stands. gone i (subst (λ ls. Contains (list_at ls i) c.args.node) (sym left) stands))
-            ∙ ap₂ (λ us vs. set (queues_in nodes lists) queue (us ++ vs)) parts.4 parts.6
+    λ queue before after link split is.
+    let nodes = c.self.inside.nodes in
+    let lists = c.self.inside.by_queue.lists in
+    let parts = map-split (link_of nodes) (list_at lists queue) before link after (sym (list_at-map (link_of nodes) lists queue) ∙ split) in
+    let number : parts.1 ≡ c.args.node = ap (λ l. l.node) parts.5 ∙ is in
+    let stood : list_at lists queue ≡ parts.0 ++ c.args.node ∷ parts.2 = parts.3 ∙ ap (λ n. parts.0 ++ n ∷ parts.2) number in
+    let left = c.unlink.ensures.lists queue parts.0 parts.2 stood in
+    let gone : (i : ℕ) → ¬ Contains (list_at c.unlink.new.self.lists i) c.args.node = λ i stands. not_both _ c.remove.ensures.updates.changed (((invariant_of-self c).queued.all c.args.node).0 (i, stands)) in
+    ap (queues_in c.remove.new.self) left
+    ∙ queues-removed _ _ _ _ c.self.invariant c.remove.new.self c.args.node queue parts.0 parts.2 c.remove.ensures.updates (λ i stands. gone i (subst (λ ls. Contains (list_at ls i) c.args.node) (sym left) stands))
+    ∙ ap₂ (λ us vs. set (queues_in nodes lists) queue (us ++ vs)) parts.4 parts.6
     )
 
 pub returns-clause-sizes : goal.returns-clause-sizes

@@ -1,5 +1,5 @@
--- A presentation queue and its steps. vdpau.h, VdpPresentationQueueDisplay and VdpPresentationQueueQuerySurfaceStatus; the steps are
--- those of this project's clock. S is what a surface is known by.
+-- A presentation queue and its steps. vdpau.h, VdpPresentationQueueDisplay and VdpPresentationQueueQuerySurfaceStatus; time goes
+-- on in ticks of the driver's clock, and a queue shows one surface at most at a tick. S is what a surface is known by.
 use Rattle.std.specs.Prelude.{◌≡◌, ◌⊎◌, ℕ, max, nat_le, nat_lt, ◌==◌, Bool, false, if◌then◌else◌, List, [], ◌∷◌, ◌++◌, length, drop, map, Contains, Option, Some, None, Result, Ok, Err, refl}
 use Rattle.std.specs.Coded.{Coded, code_by, coded×, coded_ℕ, coded_list, coded_option}
 use Rattle.std.specs.List.{list_any}

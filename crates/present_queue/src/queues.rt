@@ -11,11 +11,12 @@ use std::alloc::{AllocError, Global};
 use std::marker::Model;
 use vd_status::Refusal;
 
-// The greatest numbers of queues, of entries in a queue, and of holders: at most so many surfaces are live, queued or shown.
 const QUEUES: u32 = 64;
 
+// So many entries wait in a queue at most.
 const MAX_ENTRIES: u32 = 64;
 
+// So many surfaces are live (1,024), queued (4,096) or shown (64) at most.
 const HOLDERS: u32 = 5_184;
 
 /// What is kept of a queue beside the list of its nodes: the holder of the surface that is visible, the

@@ -79,7 +79,8 @@ impl Queues {
         requires holder { holder < 5184 }
         requires owner { IsHolderOf self.old holder entry.object }
         ensures answer { result ≡ answer_to_display (queue_at self.old queue) entry.earliest }
-        ensures ok { OnOk result (self.new ≡ slice_set self.old queue (displayed (queue_at self.old queue) (queued_by holder entry))) }
+        ensures ok { OnOk result (self.new ≡ slice_set self.old queue
+            (displayed (queue_at self.old queue) (queued_by holder entry))) }
         ensures err { OnErr result (self.new ≡ self.old) }
     {
         let number = queue as usize;
@@ -110,7 +111,8 @@ impl Queues {
     pub fn tick(&mut self, queue: u32, time: u64) -> Option<Entry>
         requires { queue < 64 }
         ensures entry { result ≡ option_map entry_of (due (queue_at self.old queue) time) }
-        ensures after { self.new ≡ slice_set self.old queue (ticked (queue_at self.old queue) time) }
+        ensures after { self.new ≡ slice_set self.old queue
+            (ticked (queue_at self.old queue) time) }
         ensures none { IfNone result (self.new ≡ self.old) }
     {
         let node = self.links.first(queue)?;
@@ -133,7 +135,8 @@ impl Queues {
     pub fn queued(&self, holder: u32) -> bool
         requires { holder < 5184 }
         ensures by_holder { result ≡ is_queued (has_holder holder) self.now }
-        ensures by_object { (object : ℕ) → IsHolderOf self.now holder object → result ≡ is_queued (is_object object) self.now }
+        ensures by_object { (object : ℕ) → IsHolderOf self.now holder object
+            → result ≡ is_queued (is_object object) self.now }
     {
         self.links.held(holder).is_some()
     }
@@ -142,7 +145,8 @@ impl Queues {
     pub fn shown(&self, holder: u32) -> bool
         requires { holder < 5184 }
         ensures by_holder { result ≡ is_shown (has_holder holder) self.now }
-        ensures by_object { (object : ℕ) → IsHolderOf self.now holder object → result ≡ is_shown (is_object object) self.now }
+        ensures by_object { (object : ℕ) → IsHolderOf self.now holder object
+            → result ≡ is_shown (is_object object) self.now }
     {
         some_shows(&self.kept, holder)
     }
@@ -150,7 +154,8 @@ impl Queues {
     /// The object of the surface that the queue shows, if it shows one.
     pub fn visible(&self, queue: u32) -> Option<u64>
         requires { queue < 64 }
-        ensures { result ≡ option_map (λ surface. surface.object) (queue_at self.now queue).visible }
+        ensures { result ≡ option_map (λ surface. surface.object)
+            (queue_at self.now queue).visible }
     {
         let holder = self.kept[queue as usize].visible?;
         Some(self.objects[holder as usize])

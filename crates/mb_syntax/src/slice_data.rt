@@ -1,5 +1,5 @@
 // The macroblocks of a slice, from their bits (H.264, 7.3.4).
-ghost use Rattle.std.specs.Prelude.{◌≡◌, ◌+◌, ◌-◌, ◌<◌, ◌≤◌, ◌^◌, IfSome, IsTrue, List, MatchOption, OnSome, ◌++◌, drop, false, length, replicate, take};
+ghost use Rattle.std.specs.Prelude.{◌≡◌, ◌+◌, ◌-◌, ◌<◌, ◌≤◌, ◌^◌, IfNone, IfSome, IsTrue, List, MatchOption, OnSome, ◌++◌, drop, false, length, replicate, take};
 ghost use Rattle.bit_io.specs.Trailing.{EndsHere, HasMoreData};
 ghost use Rattle.cb_types.specs.SizeMbs.{IsWithinLimits, macroblocks};
 ghost use Rattle.cb_types.specs.Slices.{active_entries};
@@ -17,8 +17,8 @@ use cb_types::{Header, Macroblock, PictureInfo, SizeMbs};
 
 /// Reads the macroblocks of a slice with this header from what is left of its payload, to the trailing bits.
 /// They are put into the picture's macroblocks from `first_mb` on, and their number is given. None exactly
-/// where what is left isn't some macroblocks and the trailing bits; the macroblocks and the reader are
-/// unspecified then.
+/// where what is left isn't some macroblocks and the trailing bits; then nothing is consumed, and the
+/// macroblocks from `first_mb` on are unspecified. Those before it stay in either case.
 pub fn read_slice_data(
     reader: &mut BitReader,
     info: &PictureInfo,
@@ -32,18 +32,21 @@ pub fn read_slice_data(
     ensures reads { MatchOption result ((mbs : List Macroblock) → AreSliceData info.now header.now size reader.old mbs → ⊥)
         (λ count. AreSliceData info.now header.now size reader.old (take count (drop header.now.first_mb into.new))) }
     ensures within { IfSome result (λ count. header.now.first_mb + count ≤ macroblocks size) }
-    ensures before { IfSome result (λ count. take header.now.first_mb into.new ≡ take header.now.first_mb into.old) }
+    ensures before { take header.now.first_mb into.new ≡ take header.now.first_mb into.old }
     ensures behind { IfSome result (λ count. drop (header.now.first_mb + count) into.new ≡ drop (header.now.first_mb + count) into.old) }
     ensures left { OnSome result (EndsHere reader.new) }
+    ensures none { IfNone result (reader.new ≡ reader.old) }
 {
     let slice = Slice::new(info, header, size);
     if slice.left == 0 {
         return None;
     }
-    let count = read_all(reader, &slice, &mut into[slice.first as usize..])?;
-    if count == 0 || !reader.ends_here() {
+    let mut ahead = reader.fork();
+    let count = read_all(&mut ahead, &slice, &mut into[slice.first as usize..])?;
+    if count == 0 || !ahead.ends_here() {
         return None;
     }
+    *reader = ahead;
     Some(count)
 }
 

@@ -1,7 +1,7 @@
 -- A write behind a macroblock keeps its equations: they look at earlier macroblocks alone.
 use Rattle.std.proofs.Common.{◌≡◌, ℕ, ◌+◌, ◌<◌, ◌≤◌, true, List, length, set, Option, Some, None, inl, inr, refl, sym, ap, subst, arith}
 use Rattle.std.specs.Option.{ForSome, option_map}
-use Rattle.std.proofs.lemmas.Bool.{cases_lt}
+use Rattle.std.proofs.lemmas.Bool.{cases_eq, cases_lt}
 use Rattle.std.proofs.lemmas.List.{get_or-set_same, get_or-set_other}
 use Rattle.cb_types.specs.declared.macroblock.Macroblock.{Macroblock}
 use Rattle.cb_types.specs.declared.macroblock.MbKind.{MbKind}
@@ -16,6 +16,7 @@ use Rattle.vd_plane.specs.Tiles.{tile_at, tile_cb, tile_cr, tile_y}
 use Rattle.vd_plane.specs.declared.tile.Tile.{Tile}
 use Rattle.recon.specs.Edges.{cb_edges, cr_edges, in_column, in_row, luma_edges}
 use Rattle.recon.specs.Intra.{has_chroma_edges, has_edges, has_sides}
+use Rattle.recon.specs.Laws.{AreWhole, IsWholeMark, IsWholeTile}
 use Rattle.recon.specs.Marks.{IsMarkOf}
 use Rattle.recon.specs.Rebuilt.{AreRebuilt, HasPictures, HasSamples, IsRebuilt, IsTile, border_at, cb_sample, cr_sample, luma_qp_at, luma_sample, modes_at, usable_at}
 use Rattle.recon.specs.Slice.{Slice, kind_at, macroblock, neighbours}
@@ -99,6 +100,18 @@ has_from slice number tiles (Tall parts pattern) h = h
 has_from slice number tiles (Four subs pattern) h = h
 has_from slice number tiles (FourFirst subs pattern) h = h
 
+-- they are there where earlier tiles are the same
+pub has_kept : (slice : Slice) (number : ℕ) (tiles tiles' : List Tile) → 1 ≤ slice.size.width → ((k : ℕ) → k < number → tile_at tiles k ≡ tile_at tiles' k)
+    → HasSamples slice number tiles (kind_at slice number) → HasSamples slice number tiles' (kind_at slice number)
+has_kept slice number tiles tiles' some same has =
+    let kind : MbKind = kind_at slice number in
+    let around : Around = neighbours slice number in
+    let u : Around = usable_at slice number in
+    let before : AreBefore number u = usable_before slice.info.constrained_intra_pred_flag slice.macroblocks number around (around_before slice.header.first_mb slice.size.width number some) in
+    has_from slice number tiles' kind
+    (subst (λ (c : ChromaEdges). HasWith slice number (luma_edges tiles' u) c kind) (cb_kept tiles tiles' number u same before)
+    (subst (λ (e : Edges). HasWith slice number e (cb_edges tiles u) kind) (luma_kept tiles tiles' number u same before) (has_to slice number tiles kind has)))
+
 -- a macroblock's equations, for a mark and a tile that aren't written yet
 pub record IsNew (slice : Slice) (marks : List MbMark) (tiles : List Tile) (number : ℕ) (mark : MbMark) (tile : Tile) : Type 0 where
   pub of_mark : IsMarkOf slice.header slice.list (macroblock slice number) (luma_qp_at slice number) mark
@@ -163,3 +176,28 @@ rebuilt_more slice marks tiles n mark tile some room room' before new k within =
       (sym (get_or-set_same marks n mark no_mark room)) (sym (get_or-set_same tiles n tile _ room'))
       new)
 ]
+
+-- so do those of all its macroblocks, where they are the same
+pub rebuilt_kept : (slice : Slice) (marks marks' : List MbMark) (tiles tiles' : List Tile) (count : ℕ) → 1 ≤ slice.size.width
+    → ((k : ℕ) → k < count → mark_at marks k ≡ mark_at marks' k) → ((k : ℕ) → k < count → tile_at tiles k ≡ tile_at tiles' k)
+    → AreRebuilt slice marks tiles count → AreRebuilt slice marks' tiles' count
+rebuilt_kept slice marks marks' tiles tiles' count some same_marks same_tiles are k lt =
+    let old = are k lt in
+    written slice marks marks' tiles tiles' k (mark_at marks k) (tile_at tiles k) some
+    (λ j less. same_marks j (omega arith)) (λ j less. same_tiles j (omega arith))
+    (same_marks k lt) (same_tiles k lt)
+    (record { of_mark = old.mark; vectors = old.vectors; pictures = old.pictures; samples = old.samples; of_tile = old.tile })
+
+-- a write of a whole mark and a whole tile leaves them whole
+pub whole_set : (marks : List MbMark) (tiles : List Tile) (count n : ℕ) (mark : MbMark) (tile : Tile) → n < length marks → n < length tiles → IsWholeMark mark → IsWholeTile tile
+    → AreWhole marks tiles count → AreWhole (set marks n mark) (set tiles n tile) count
+whole_set marks tiles count n mark tile room room' of_mark of_tile before = record {
+  of_marks = λ k lt. elim (cases_eq k n) [
+    | inl same ↦ subst (λ j. IsWholeMark (mark_at (set marks n mark) j)) (sym same) (subst IsWholeMark (sym (get_or-set_same marks n mark no_mark room)) of_mark)
+    | inr other ↦ subst IsWholeMark (mark_beside marks n k mark other) (before.of_marks k lt)
+  ];
+  of_tiles = λ k lt. elim (cases_eq k n) [
+    | inl same ↦ subst (λ j. IsWholeTile (tile_at (set tiles n tile) j)) (sym same) (subst IsWholeTile (sym (get_or-set_same tiles n tile _ room')) of_tile)
+    | inr other ↦ subst IsWholeTile (tile_beside tiles n k tile other) (before.of_tiles k lt)
+  ];
+}

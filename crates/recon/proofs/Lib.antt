@@ -14,3 +14,4 @@ pub mod KeptLemmas
 pub mod QuantizerLemmas
 pub mod OneSolution
 pub mod SamePrefix
+pub mod StopLemmas

@@ -30,10 +30,10 @@ use Rattle.recon.proofs.SamePrefix.{SameMarks, SameTiles, border_at_kept, tile_k
 use Rattle.recon.proofs.SidesLemmas.{SameBefore, sides_same}
 
 -- vectors, block by block
-vectors_agree : (border : Border) (kind : MbKind) (v w : List Vector) → AreVectors border kind 16 v → AreVectors border kind 16 w → (end : ℕ) → end ≤ 16 → AgreeBefore end v w
-vectors_agree border kind v w of_v of_w zero within = record { same = λ block lt. absurd (omega arith) }
-vectors_agree border kind v w of_v of_w (suc end) within =
-    let before : AgreeBefore end v w = vectors_agree border kind v w of_v of_w end (omega arith) in
+pub vectors_agree : (border : Border) (kind : MbKind) (v w : List Vector) (end : ℕ) → end ≤ 16 → AreVectors border kind end v → AreVectors border kind end w → AgreeBefore end v w
+vectors_agree border kind v w zero within of_v of_w = record { same = λ block lt. absurd (omega arith) }
+vectors_agree border kind v w (suc end) within of_v of_w =
+    let before : AgreeBefore end v w = vectors_agree border kind v w end (omega arith) (λ block lt. of_v block (omega arith)) (λ block lt. of_w block (omega arith)) in
     let here : get_or v end no_motion ≡ get_or w end no_motion = (of_v end (omega arith)).value ∙ (vector_same border kind v w end (omega arith) before ∙ sym (of_w end (omega arith)).value) in
     record {
       same = λ block lt. elim (cases_lt block end) [
@@ -44,7 +44,7 @@ vectors_agree border kind v w of_v of_w (suc end) within =
 
 vectors_one : (border : Border) (kind : MbKind) (v w : List Vector) → length v ≡ 16 → length w ≡ 16 → AreVectors border kind 16 v → AreVectors border kind 16 w → v ≡ w
 vectors_one border kind v w count other of_v of_w =
-    ext_get_or no_motion v w (count ∙ sym other) (λ block lt. (vectors_agree border kind v w of_v of_w 16 (omega arith)).same block (omega arith))
+    ext_get_or no_motion v w (count ∙ sym other) (λ block lt. (vectors_agree border kind v w 16 (omega arith) of_v of_w).same block (omega arith))
 
 -- Intra4x4 samples, block by block
 abbrev IsIntra4 : Edges → List ℕ → (ℕ → ℕ → ℤ) → List ℕ → Type 0

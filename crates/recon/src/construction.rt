@@ -7,6 +7,7 @@ ghost use Rattle.vd_plane.specs.Tiles.{tile_at};
 ghost use Rattle.recon.specs.Availability.{usable_around};
 ghost use Rattle.recon.specs.Columns.{AreColumns};
 ghost use Rattle.recon.specs.Conditions.{IsKindRange, IsSlice};
+ghost use Rattle.recon.specs.Laws.{AreWhole};
 ghost use Rattle.recon.specs.Modes.{modes_in, next_modes, slice_modes};
 ghost use Rattle.recon.specs.Rebuilt.{AreRebuilt, StopsWithin};
 ghost use Rattle.recon.specs.References.{pictures_of};
@@ -49,6 +50,7 @@ pub fn rebuild(
     requires tiles { count ≤ length into.old }
     ensures rebuilt { let slice = slice_of info.now header.now list.now.entries (pictures_of refs.now) size macroblocks.now in
         MatchBool result (AreRebuilt slice marks.new into.new count) (StopsWithin slice marks.new into.new count) }
+    ensures whole { AreWhole marks.old into.old count → AreWhole marks.new into.new count }
     ensures other_marks { (number : ℕ) → count ≤ number → mark_at marks.new number ≡ mark_at marks.old number }
     ensures other_tiles { (number : ℕ) → count ≤ number → tile_at into.new number ≡ tile_at into.old number }
 {

@@ -21,5 +21,5 @@ mod sides;
 mod tiles;
 
 pub use construction::rebuild;
-pub use laws::slices_have_one_solution;
+pub use laws::{slices_have_one_solution, stopped_slices_have_no_solution};
 pub use references::Refs;

@@ -1,9 +1,10 @@
 // What macroblocks tell the deblocking filter.
-ghost use Rattle.std.specs.Prelude.{◌≡◌, ℕ, ◌<◌, ◌≤◌, ◌*ℤ◌, false, pos, slice_index, slice_index_or, unwrap_or, unsigned_abs};
+ghost use Rattle.std.specs.Prelude.{◌≡◌, ℕ, ◌<◌, ◌≤◌, ◌*ℤ◌, false, length, pos, slice_index, slice_index_or, unwrap_or, unsigned_abs};
 ghost use Rattle.cb_types.specs.declared.macroblock.MbKind.{MbKind};
 ghost use Rattle.motion.specs.Kinds.{is_intra};
 ghost use Rattle.motion.specs.Partitions.{partition_of};
 ghost use Rattle.recon.specs.Conditions.{IsKindRange};
+ghost use Rattle.recon.specs.Laws.{IsWholeMark};
 ghost use Rattle.recon.specs.Marks.{IsMarkOf, has_levels, is_pcm, place_in};
 ghost use Rattle.recon.specs.Residuals.{levels_at};
 
@@ -25,6 +26,7 @@ pub fn mark_of(
     requires kind { IsKindRange macroblock.now.kind }
     ensures mark { IsMarkOf header.now list.now.entries macroblock.now qp result }
     ensures vectors { result.vectors ≡ vectors }
+    ensures whole { IsWholeMark result }
 {
     MbMark {
         slice: header.first_mb,
@@ -47,7 +49,8 @@ fn is_pcm(kind: &MbKind) -> bool
 }
 
 fn coded(macroblock: &Macroblock) -> [bool; 16]
-    ensures { (block : ℕ) → block < 16 → slice_index_or result block false ≡ has_levels (levels_at macroblock.now.luma block) }
+    ensures count { length result ≡ 16 }
+    ensures coded { (block : ℕ) → block < 16 → slice_index_or result block false ≡ has_levels (levels_at macroblock.now.luma block) }
 {
     let mut coded = [false; 16];
     for block in 0..16 {
@@ -58,7 +61,8 @@ fn coded(macroblock: &Macroblock) -> [bool; 16]
 
 fn pictures(list: &RefList, kind: &MbKind) -> [u8; 16]
     requires { IsKindRange kind.now }
-    ensures { (block : ℕ) → block < 16 → slice_index result block ≡ place_in list.now.entries kind.now block }
+    ensures count { length result ≡ 16 }
+    ensures places { (block : ℕ) → block < 16 → slice_index result block ≡ place_in list.now.entries kind.now block }
 {
     let mut pictures = [0; 16];
     if is_intra(kind) {

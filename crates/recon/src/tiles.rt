@@ -1,5 +1,5 @@
 // The constructed samples of one macroblock.
-ghost use Rattle.std.specs.Prelude.{◌≡◌, ℕ, ◌+◌, ◌<◌, ◌≤◌, ◌⊎◌, MatchOption, false, length};
+ghost use Rattle.std.specs.Prelude.{◌≡◌, ℕ, ◌+◌, ◌<◌, ◌≤◌, ◌⊎◌, IfSome, MatchOption, false, length};
 ghost use Rattle.motion.specs.Around.{AreBefore};
 ghost use Rattle.motion.specs.Border.{vector_at};
 ghost use Rattle.motion.specs.Kinds.{is_intra};
@@ -10,6 +10,7 @@ ghost use Rattle.recon.specs.Edges.{cb_edges};
 ghost use Rattle.recon.specs.Intra.{has_chroma_edges};
 ghost use Rattle.recon.specs.IntraTiles.{IsIntraChroma};
 ghost use Rattle.recon.specs.Inputs.{slice_in};
+ghost use Rattle.recon.specs.Laws.{IsWholeTile};
 ghost use Rattle.recon.specs.Rebuilt.{HasPictures, HasSamples, IsTile, LacksPicture, LacksSamples, luma_qp_at, modes_at, usable_at};
 ghost use Rattle.recon.specs.Inter.{inter_cb, inter_cr, inter_luma};
 ghost use Rattle.recon.specs.Residuals.{chroma_of, chroma_residual, constructed, dc_of, luma_residual};
@@ -49,11 +50,12 @@ pub fn tile_of(
     requires usable { usable.now ≡ usable_at (slice_in inputs.now) number }
     requires vectors { (block : ℕ) → block < 16 → IsWithinBounds (vector_at vectors.now block) }
     requires shared { AreShared (kind_at (slice_in inputs.now) number) vectors.now }
-    ensures { MatchOption result
+    ensures tile { MatchOption result
         (LacksPicture (slice_in inputs.now) (kind_at (slice_in inputs.now) number) ⊎ LacksSamples (slice_in inputs.now) number tiles.now (kind_at (slice_in inputs.now) number))
         (λ tile. HasPictures (slice_in inputs.now) (kind_at (slice_in inputs.now) number)
         × HasSamples (slice_in inputs.now) number tiles.now (kind_at (slice_in inputs.now) number)
         × IsTile (slice_in inputs.now) number vectors.now tiles.now tile) }
+    ensures whole { IfSome result IsWholeTile }
 {
     let macroblock = &inputs.macroblocks[number as usize];
     let qpc = chroma_qp_of(inputs.info, qp);

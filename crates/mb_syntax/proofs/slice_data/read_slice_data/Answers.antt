@@ -17,8 +17,9 @@ returns-clause-reads c =
     let few : slice.first ≤ length c.args.into.now = omega (arith, first, left, c.if-slice-eq0.false, c.requires.room) in
     let within : c.in_ok-count.count ≤ length c.read_all.new.into =
     omega (arith, first, left, c.requires.room, c.in_ok-count.ensures.within, c.read_all.auto.into, long_part c.args.into.now slice.first) in
+    let behind_all = rw c.fork-ahead.ensures at c.in_ok-count.ensures.reads in
     read_whole c.args.info.now c.args.header.now c.args.size slice c.new-slice.ensures c.args.reader.now c.read_all.new.reader c.args.into.now c.read_all.new.into _ c.in_ok-count.count few within
-    (omega (arith, c.if-count-eq0.false)) c.in_ok-count.ensures.reads (c.if-not-ends_here.ensures.0 refl)
+    (omega (arith, c.if-count-eq0.false)) behind_all (c.if-not-ends_here.ensures.0 refl)
 
 pub returns-clause-behind : goal.returns-clause-behind
 returns-clause-behind c =

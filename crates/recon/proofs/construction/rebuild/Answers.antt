@@ -1,4 +1,4 @@
-use Rattle.std.proofs.Common.{◌≡◌, ◌∙◌, ◌≤◌, ℕ, List, FitsSigned, length, refl, sym, ap, subst, to_z, of_z, w32, arith}
+use Rattle.std.proofs.Common.{◌≡◌, ◌∙◌, ◌≤◌, ℕ, List, FitsSigned, length, inr, refl, sym, ap, subst, to_z, of_z, w32, arith}
 use Rattle.std.proofs.lemmas.Int.{ints, to_z-of_z}
 use Rattle.cb_types.specs.declared.macroblock.Vector.{Vector}
 use Rattle.motion.specs.Around.{AreBefore, around_of}
@@ -12,7 +12,7 @@ use Rattle.recon.specs.Rebuilt.{IsTile, luma_qp_at}
 use Rattle.recon.specs.References.{pictures_of}
 use Rattle.recon.specs.Slice.{Slice, kind_at, macroblock, slice_of}
 use Rattle.recon.proofs.AroundLemmas.{around_before, fewer_before, usable_before}
-use Rattle.recon.proofs.KeptLemmas.{mark_beside, rebuilt_more, tile_beside}
+use Rattle.recon.proofs.KeptLemmas.{mark_beside, rebuilt_more, tile_beside, whole_set}
 use Rattle.recon.proofs.QuantizerLemmas.{by_one, columns_start, qp_start, qp_step}
 use Rattle.recon.proofs.construction.rebuild.Goals as goal
 
@@ -22,6 +22,7 @@ loop-number-init c = record {
   few = c.first_qp-qp.ensures.limit;
   columns = columns_start c.args.info.now.constrained_intra_pred_flag c.args.header.now.first_mb c.args.size.width c.args.macroblocks.now c.new-columns.result (c.new-columns.ensures c.args.header.now.first_mb c.args.size.width);
   rebuilt = λ k lt. absurd (omega arith);
+  whole = λ before. before;
   other_marks = λ k le. refl;
   other_tiles = λ k le. refl;
 }
@@ -115,7 +116,7 @@ loop-number-preserved c =
     let border : c.border_of-border.result ≡ border_of mbs c.loop-number.marks (around_of first width n) = c.border_of-border.ensures ∙ ap (border_of mbs c.loop-number.marks) around_is in
     let mark = c.mark_of.result in
     let tile = c.in-Some-tile_of.tile in
-    let parts = c.in-Some-tile_of.ensures in
+    let parts = c.in-Some-tile_of.ensures.tile in
     let made : mark.vectors ≡ c.in-Some.vectors = c.mark_of.ensures.vectors in
     record {
       qp = qp ∙ by_one c.args.info.now c.args.header.now mbs n;
@@ -129,6 +130,15 @@ loop-number-preserved c =
             samples = parts.1;
             of_tile = subst (λ (v : List Vector). IsTile slice n v c.loop-number.into tile) (sym made) parts.2;
           });
+      whole = λ before. whole_set c.loop-number.marks c.loop-number.into c.args.count n mark tile (omega arith) (omega arith) c.mark_of.ensures.whole c.in-Some-tile_of.ensures.whole (c.loop-number.invariant.whole before);
       other_marks = λ k le. sym (mark_beside c.loop-number.marks n k mark (λ e. omega arith)) ∙ c.loop-number.invariant.other_marks k (omega arith);
       other_tiles = λ k le. sym (tile_beside c.loop-number.into n k tile (λ e. omega arith)) ∙ c.loop-number.invariant.other_tiles k (omega arith);
     }
+
+pub returns-in_default-tile_of-clause-rebuilt : goal.returns-in_default-tile_of-clause-rebuilt
+returns-in_default-tile_of-clause-rebuilt c = record {
+  number = c.loop-number.number;
+  inside = omega arith;
+  before = c.loop-number.invariant.rebuilt;
+  stops = inr c.in_default-tile_of.ensures.tile;
+}

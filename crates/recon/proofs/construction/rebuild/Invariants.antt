@@ -2,6 +2,7 @@ use Rattle.std.proofs.Common.{◌≡◌, ℕ, ◌≤◌}
 use Rattle.motion.specs.Border.{mark_at}
 use Rattle.vd_plane.specs.Tiles.{tile_at}
 use Rattle.recon.specs.Columns.{AreColumns}
+use Rattle.recon.specs.Laws.{AreWhole}
 use Rattle.recon.specs.Modes.{slice_modes}
 use Rattle.recon.specs.Quantizer.{qp_before}
 use Rattle.recon.specs.Rebuilt.{AreRebuilt}
@@ -17,6 +18,7 @@ invariant-loop-number l =
       few : l.qp ≤ 51;
       columns : AreColumns l.header.first_mb l.size.width (slice_modes l.info.constrained_intra_pred_flag l.header.first_mb l.size.width l.macroblocks l.number) l.columns;
       rebuilt : AreRebuilt slice l.marks l.into l.number;
+      whole : AreWhole l.initial.marks l.initial.into l.count → AreWhole l.marks l.into l.count;
       other_marks : (k : ℕ) → l.number ≤ k → mark_at l.marks k ≡ mark_at l.initial.marks k;
       other_tiles : (k : ℕ) → l.number ≤ k → tile_at l.into k ≡ tile_at l.initial.into k;
     }

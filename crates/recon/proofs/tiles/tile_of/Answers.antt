@@ -9,8 +9,8 @@ use Rattle.recon.specs.declared.edges.Edges.{Edges}
 use Rattle.recon.proofs.TileLemmas.{AsInter, IsLuma16, IsLuma4, WithChroma, inter_answers, intra16_answers, intra4_answers, not_intra}
 use Rattle.recon.proofs.tiles.tile_of.Goals as goal
 
-pub returns-in_ok-y-in-Intra4 : goal.returns-in_ok-y-in-Intra4
-returns-in_ok-y-in-Intra4 c =
+pub returns-in_ok-y-in-Intra4-clause-tile : goal.returns-in_ok-y-in-Intra4-clause-tile
+returns-in_ok-y-in-Intra4-clause-tile c =
     let slice = slice_in c.args.inputs.now in
     let number = c.args.number in
     let tiles = c.args.tiles.now in
@@ -24,8 +24,8 @@ returns-in_ok-y-in-Intra4 c =
     let f = subst (λ (q : ℕ). WithChroma slice number tiles c.in-Intra4.chroma y c.with_chroma.result (usable_at slice number) q) qpc e in
     intra4_answers slice number c.args.vectors.now tiles c.in-Intra4.modes c.in-Intra4.chroma c.in-Intra4.pattern y c.with_chroma.result c.in-Intra4.is d f
 
-pub returns-in_ok-y-in-Intra16 : goal.returns-in_ok-y-in-Intra16
-returns-in_ok-y-in-Intra16 c =
+pub returns-in_ok-y-in-Intra16-clause-tile : goal.returns-in_ok-y-in-Intra16-clause-tile
+returns-in_ok-y-in-Intra16-clause-tile c =
     let slice = slice_in c.args.inputs.now in
     let number = c.args.number in
     let tiles = c.args.tiles.now in
@@ -39,8 +39,8 @@ returns-in_ok-y-in-Intra16 c =
     let f = subst (λ (q : ℕ). WithChroma slice number tiles c.in-Intra16.chroma y c.with_chroma-in-Intra16.result (usable_at slice number) q) qpc e in
     intra16_answers slice number c.args.vectors.now tiles mode c.in-Intra16.chroma c.in-Intra16.pattern y c.with_chroma-in-Intra16.result c.in-Intra16.is d f
 
-pub returns-in_default : goal.returns-in_default
-returns-in_default c =
+pub returns-in_default-clause-tile : goal.returns-in_default-clause-tile
+returns-in_default-clause-tile c =
     let slice = slice_in c.args.inputs.now in
     let number = c.args.number in
     let vectors = c.args.vectors.now in

@@ -191,7 +191,8 @@ impl Queues {
     /// The lists of nodes that the queues stand in: one node for each entry, with the holder of its surface
     /// and its time.
     pub fn links(&self) -> &Links
-        ensures { HasNodesOf result.now self.now }
+        ensures nodes { HasNodesOf result.now self.now }
+        ensures limits { IsWithinLimits self.now }
     {
         &self.links
     }

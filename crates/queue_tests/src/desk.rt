@@ -36,6 +36,7 @@ impl Desk {
             "flood" => Some(self.flood(first, second)),
             "tick" => Some(self.tick(first, second)),
             "status" => Some(self.status(first)),
+            "oldest" => Some(self.oldest(first)),
             "visible" => Some(self.visible(first)),
             "promise" => Some(self.promise(first, second)),
             "clear" => Some(self.clear(first)),
@@ -89,6 +90,17 @@ impl Desk {
             self.queues.shown(surface as u32),
             self.queues.queued(surface as u32),
         )
+    }
+
+    fn oldest(&self, queue: u64) -> Answer {
+        if queue >= QUEUES {
+            return Answer::OutOfRange;
+        }
+        let links = self.queues.links();
+        match links.first(queue as u32) {
+            Some(node) => Answer::Node(links.value(node), links.holder(node)),
+            None => Answer::NoNode,
+        }
     }
 
     fn visible(&self, queue: u64) -> Answer {

@@ -6,6 +6,7 @@
 //!     flood SURFACE TIME             so many of it on every queue as there is room for
 //!     tick QUEUE TIME                what is shown from now on
 //!     status SURFACE                 visible, queued or idle
+//!     oldest QUEUE                   the time and the holder of the entry that is next
 //!     visible QUEUE                  the object that is shown
 //!     promise QUEUE TIME             the promise from now on
 //!     clear QUEUE                    cleared

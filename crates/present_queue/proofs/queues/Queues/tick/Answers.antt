@@ -1,9 +1,9 @@
-use Rattle.std.proofs.Common.{◌≡◌, set, ◌<◌, [], None, option_map, sym, ap, ◌∙◌, arith}
+use Rattle.std.proofs.Common.{◌≡◌, ◌<◌, None, option_map, sym, ap, ◌∙◌, arith}
 use Rattle.index_lists.specs.Lists.{list_at}
 use Rattle.present_queue.specs.Queue.{due}
 use Rattle.present_queue.specs.Queues.{entry_of, queue_at}
 use Rattle.present_queue.specs.Kept.{kept_at}
-use Rattle.present_queue.proofs.FirstLinks.{BeginsWith, BeginsWith-from_first, Contains-first, nil-from_first}
+use Rattle.present_queue.proofs.FirstLinks.{BeginsWith-from_first, Contains-first, nil-from_first}
 use Rattle.present_queue.proofs.Steps.{not_due, nothing_due, unticked}
 use Rattle.present_queue.proofs.Taken.{IsSound-taken, entry-taken, view-taken}
 use Rattle.present_queue.proofs.ViewLemmas.{kept_read, object_read, queue_at-view}
@@ -35,36 +35,23 @@ returns-then-time-earliest-clause-entry c = sym (ap (option_map entry_of) (none_
 pub returns-then-time-earliest-clause-after : goal.returns-then-time-earliest-clause-after
 returns-then-time-earliest-clause-after c = unticked c.args.self.now c.args.queue c.args.time (none_yet c)
 
--- the first node when it is taken
-begun : (c : goal.After-row_known-1) → BeginsWith (list_at c.self.inside.links.queues c.args.queue) c.in_ok-node.node
-begun c = BeginsWith-from_first (list_at c.self.inside.links.queues c.args.queue) c.in_ok-node.node c.in_ok-node.ensures.first
-
-value_is : (c : goal.After-row_known-1) → c.value-earliest.result ≡ (begun c).link.value
-value_is c = c.value-earliest.ensures c.args.queue (begun c).link (Contains-first (list_at c.self.inside.links.queues c.args.queue) c.in_ok-node.node (begun c)) (begun c).node_is
-
-holder_is : (c : goal.After-row_known-1) → c.holder-holder.result ≡ (begun c).link.holder
-holder_is c = c.holder-holder.ensures.holder c.args.queue (begun c).link (Contains-first (list_at c.self.inside.links.queues c.args.queue) c.in_ok-node.node (begun c)) (begun c).node_is
-
-read : (c : goal.After-row_known-1) → c.index_mut-kept.result.now ≡ kept_at c.self.inside.kept.items c.args.queue
-read c = kept_read _ _ _ _ c.self.invariant c.self.view_is c.args.queue c.index_mut-kept.result.now c.requires c.index_mut-kept.ensures.value
-
-changed : (c : goal.After-row_known-1) → c.unlink.new.self.queues ≡ set c.self.inside.links.queues c.args.queue (begun c).rest
-changed c = c.unlink.ensures.queues c.args.queue [] (begun c).rest (begun c).link (begun c).is (begun c).node_is
-
 pub invariant_of-self : goal.invariant_of-self
 invariant_of-self c =
-    IsSound-taken _ c.unlink.new.self _ _ _ c.self.invariant c.self.view_is c.args.queue c.args.time c.in_ok-node.node c.value-earliest.result c.holder-holder.result (begun c) c.requires
-    (value_is c) (holder_is c) c.if-time-earliest.false c.index_mut-kept.result.now (read c) (changed c)
+    IsSound-taken _ c.unlink.new.self _ _ _ c.self.invariant c.self.view_is c.args.queue c.args.time c.in_ok-node.node c.value-earliest.result c.holder-holder.result c.requires c.if-time-earliest.false
+    c.index_mut-kept.result.now (kept_read _ _ _ _ c.self.invariant c.self.view_is c.args.queue c.index_mut-kept.result.now c.requires c.index_mut-kept.ensures.value)
+    c.in_ok-node.ensures.first c.value-earliest.ensures c.holder-holder.ensures.holder c.unlink.ensures.queues
     c.holder-holder.ensures.in_range c.unlink.ensures.sizes.1 c.unlink.ensures.nodes
 
 pub returns-clause-entry : goal.returns-clause-entry
 returns-clause-entry c =
     let within : c.holder-holder.result < 5184 = omega (arith, c.holder-holder.ensures.in_range, c.self.invariant.holders) in
-    entry-taken _ c.unlink.new.self _ _ _ c.self.invariant c.self.view_is c.args.queue c.args.time c.in_ok-node.node c.value-earliest.result c.holder-holder.result (begun c) c.requires
-    (value_is c) (holder_is c) c.if-time-earliest.false c.index_mut-kept.result.now (read c) (changed c)
+    entry-taken _ c.unlink.new.self _ _ _ c.self.invariant c.self.view_is c.args.queue c.args.time c.in_ok-node.node c.value-earliest.result c.holder-holder.result c.requires c.if-time-earliest.false
+    c.index_mut-kept.result.now (kept_read _ _ _ _ c.self.invariant c.self.view_is c.args.queue c.index_mut-kept.result.now c.requires c.index_mut-kept.ensures.value)
+    c.in_ok-node.ensures.first c.value-earliest.ensures c.holder-holder.ensures.holder c.unlink.ensures.queues
     c.index.result.now (object_read _ _ _ _ c.self.invariant c.self.view_is c.holder-holder.result c.index.result.now within c.index.ensures)
 
 pub returns-clause-after : goal.returns-clause-after
 returns-clause-after c =
-    view-taken _ c.unlink.new.self _ _ _ c.self.invariant c.self.view_is c.args.queue c.args.time c.in_ok-node.node c.value-earliest.result c.holder-holder.result (begun c) c.requires
-    (value_is c) (holder_is c) c.if-time-earliest.false c.index_mut-kept.result.now (read c) (changed c)
+    view-taken _ c.unlink.new.self _ _ _ c.self.invariant c.self.view_is c.args.queue c.args.time c.in_ok-node.node c.value-earliest.result c.holder-holder.result c.requires c.if-time-earliest.false
+    c.index_mut-kept.result.now (kept_read _ _ _ _ c.self.invariant c.self.view_is c.args.queue c.index_mut-kept.result.now c.requires c.index_mut-kept.ensures.value)
+    c.in_ok-node.ensures.first c.value-earliest.ensures c.holder-holder.ensures.holder c.unlink.ensures.queues

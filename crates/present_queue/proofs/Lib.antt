@@ -1,0 +1,10 @@
+pub mod Counts
+pub mod Displayed
+pub mod FirstLinks
+pub mod HeldNodes
+pub mod HolderLemmas
+pub mod Made
+pub mod NameLemmas
+pub mod Steps
+pub mod Taken
+pub mod ViewLemmas

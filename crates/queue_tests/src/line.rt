@@ -1,0 +1,30 @@
+// The words of a line.
+
+/// A line's first word, and the numbers behind it. A number that is missing or isn't one is the greatest there is.
+#[derive(Clone, Copy)]
+pub struct Line<'a> {
+    pub name: &'a str,
+    pub numbers: [u64; 4],
+}
+
+impl Line<'_> {
+    pub fn read(text: &str) -> Line<'_> {
+        let mut words = text.split_whitespace();
+        Line {
+            name: words.next().unwrap_or(""),
+            numbers: [
+                number(words.next()),
+                number(words.next()),
+                number(words.next()),
+                number(words.next()),
+            ],
+        }
+    }
+}
+
+fn number(word: Option<&str>) -> u64 {
+    let Some(word) = word else {
+        return u64::MAX;
+    };
+    word.parse().unwrap_or(u64::MAX)
+}

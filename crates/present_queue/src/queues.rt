@@ -192,6 +192,7 @@ impl Queues {
     /// and its time.
     pub fn links(&self) -> &Links
         ensures nodes { HasNodesOf result.now self.now }
+        ensures room { (length result.now.holders ≡ 5184) × (result.now.nodes ≡ 4096) }
         ensures limits { IsWithinLimits self.now }
     {
         &self.links

@@ -14,3 +14,7 @@ pub mod StepLemmas
 pub mod SubmissionPayloads
 pub mod DecodeLemmas
 pub mod MemoryLemmas
+pub mod OneReading
+pub mod OneCovered
+pub mod OnePicture
+pub mod OneOutcome

@@ -4,10 +4,12 @@
 mod construction;
 mod decoding;
 mod fitting;
+mod laws;
 mod outcome;
 mod parsing;
 mod prepared;
 mod submission;
 
+pub use laws::{outcomes_are_unique, submissions_have_one_reading};
 pub use outcome::Outcome;
 pub use prepared::Prepared;

@@ -1,0 +1,27 @@
+// What a picture's units come to is settled by the units.
+ghost use Rattle.std.specs.Prelude.{◌≡◌, ℕ, List, Option};
+ghost use Rattle.cb_types.specs.AcceptedInfo.{IsAcceptedBySome};
+ghost use Rattle.cb_types.specs.SizeMbs.{IsWithinLimits};
+ghost use Rattle.vd_plane.specs.Picture.{SameSamples};
+ghost use Rattle.vd_plane.specs.declared.picture.Picture.{Picture};
+ghost use Rattle.decoder_render.specs.Coverage.{Given};
+ghost use Rattle.decoder_render.specs.Outcomes.{IsOutcome, IsWhole};
+ghost use Rattle.decoder_render.specs.Submission.{ArePayloads};
+ghost use Rattle.decoder_render.specs.declared.outcome.Outcome.{Outcome};
+
+/// The units of a picture have one outcome at most, and where they are all that the picture needs, its
+/// samples are settled too.
+pub fn outcomes_are_unique()
+    ensures outcome { (g : Given) (units : List (Option (List ℕ))) (a b : Outcome) (p q : Picture)
+        → IsAcceptedBySome g.info → IsWithinLimits g.size
+        → IsOutcome g units a p → IsOutcome g units b q → a ≡ b }
+    ensures samples { (g : Given) (units : List (Option (List ℕ))) (p q : Picture)
+        → IsAcceptedBySome g.info → IsWithinLimits g.size
+        → IsWhole g units p → IsWhole g units q → SameSamples p q }
+{}
+
+/// A submission's text has one list of payloads at most: that of its NAL units, in their order.
+pub fn submissions_have_one_reading()
+    ensures one { (text : List ℕ) (a b : List (Option (List ℕ)))
+        → ArePayloads text a → ArePayloads text b → a ≡ b }
+{}

@@ -1,0 +1,187 @@
+-- Each step keeps the rule, and tells what it says it does.
+use Rattle.std.proofs.Common.{◌≡◌, ℕ, zero, suc, ◌+◌, ◌%◌, ◌^◌, ◌<◌, ◌≤◌, eqb, ◌≢◌, ◌⊎◌, inl, inr, List, [], ◌∷◌, ◌++◌, length, get_or, set, Option, Some, None, sym, refl, ap, ◌∙◌, subst, ⊎_elim, arith, eq-eqb, ne_eqb}
+use mathlib.Core.Logic.{dite}
+use mathlib.Core.List.{IsPrefix, append-nil}
+use mathlib.Core.Option.{none, some, some-injective, some-ne-none}
+use mathlib.Core.Option as maybe
+use native.Mathlib.Decide.{ℕ_discrete}
+use lib.ListN.{get_elem?}
+use lib.Seq.{set-get_or}
+use prog.Atomic.{either}
+use Rattle.atomic_table.proofs.Lists.{set_again}
+use Rattle.atomic_table.specs.Table.{State, Me, Act, step, keeps, takes, gives, rest, homes_after, stepped, Allows, opening}
+use Rattle.device_lock.specs.declared.view.View.{View}
+use Rattle.device_lock.specs.declared.view.Turn.{Turn}
+use Rattle.device_lock.specs.declared.view.Turn.TheVariants.{Waiting, Holding, HasLogged}
+use Rattle.device_lock.specs.Lists.{At, Somewhere}
+use Rattle.device_lock.specs.Views.{IsInTurn, IsAway, first_view, with_ticket, with_turn, with_item, without_turn}
+use Rattle.device_lock.specs.Rule.{Queue, Past, Hold, Rule}
+use Rattle.device_lock.specs.Steps.{drew, looked, logs, served}
+use Rattle.device_lock.proofs.Places.{at_once, at_below}
+use Rattle.device_lock.proofs.Turns.{queue_draws, queue_stays, queue_serves, past_stays, past_logs, hold_stays, at_home, hold_takes, not_logged, hold_logs, hold_serves, home_after}
+
+module _ {I T : Type 0} (stands : T → List I → Type 0) where
+  abbrev St : Type 0
+  St = State (Option T) (View I)
+
+  abbrev Sat : Type 0
+  Sat = Me (Option T) (View I)
+
+  same_some : (a b : ℕ) → Some a ≡ Some b → a ≡ b
+  same_some a b e = cc (e)
+
+  all_first : (j : ℕ) (v : View I) → At (first_view ∷ []) j v → first_view ≡ v
+  all_first zero v at = some-injective first_view v at
+  all_first (suc j) v at = absurd (some-ne-none v (sym at))
+
+  word_is : (s : St) (r : Rule stands s) (i : ℕ) → get_or s.words i 0 ≡ get_or (r.next ∷ r.serving ∷ r.logged ∷ []) i 0
+  word_is s r i = ap (λ (ws : List ℕ). get_or ws i 0) r.words
+
+  words_set : (s : St) (r : Rule stands s) (i n : ℕ) → set s.words i n ≡ set (r.next ∷ r.serving ∷ r.logged ∷ []) i n
+  words_set s r i n = ap (λ (ws : List ℕ). set ws i n) r.words
+
+  -- the step that changes nothing
+  unmoved : (s : St) (r : Rule stands s) (i id : ℕ) (m : Sat) → At s.views id m.0 → Rule stands (stepped s i (get_or s.words i 0) id m.1 m.0 keeps)
+  unmoved s r i id m at = subst (λ (p : List ℕ × List (View I)). Rule stands record { words = p.0; homes = s.homes; views = p.1 }) (λ k. (sym (set-get_or s.words i 0) k, sym (set_again s.views id m.0 at) k)) r
+
+  pub draws : (slots id n : ℕ) (m : Sat) → IsAway m.0 → n + 1 < 2 ^ 64 → Allows (Rule stands) slots id m 0 (λ x. either (eqb x n) (n + 1) x) (drew (step slots 0 n (n + 1) none) m)
+  draws slots id n m away small s r _ at _ = let x : ℕ = get_or s.words 0 0 in let v : View I = m.0 in dite (ℕ_discrete x n)
+      (λ e. let w : View I = with_ticket v x in let is : x ≡ r.next = word_is s r 0 in (
+        w,
+        keeps,
+        tt,
+        subst (λ b. Rule stands (stepped s 0 (either b (n + 1) x) id m.1 w keeps)) (sym (eq-eqb x n e)) record {
+          next = r.next + 1;
+          serving = r.serving;
+          logged = r.logged;
+          history = r.history;
+          words = words_set s r 0 (n + 1) ∙ ap (λ (k : ℕ). (k + 1) ∷ r.serving ∷ r.logged ∷ []) (sym e ∙ is);
+          queue = subst (λ (k : ℕ). Queue (set s.views id (with_ticket v k)) (r.next + 1) r.serving) (sym is) (queue_draws s.views id r.next r.serving v at away.0 (omega arith) r.queue);
+          past = past_stays stands s.views id r.logged r.history v w at (inl refl) r.past;
+          hold = hold_stays stands s.views s.homes id r.next r.serving r.logged r.history v at r.queue r.hold w away.1 away.1;
+        },
+        ((λ _. refl), λ ne. absurd (ne e)),
+      ))
+      (λ ne. (
+        v,
+        keeps,
+        tt,
+        subst (λ b. Rule stands (stepped s 0 (either b (n + 1) x) id m.1 v keeps)) (sym (ne_eqb x n ne)) (unmoved s r 0 id m at),
+        ((λ e. absurd (ne e)), λ _. refl),
+      ))
+
+  pub looks : (slots id t : ℕ) (m : Sat) → m.0.ticket ≡ Some t → m.0.turn ≡ Waiting → Allows (Rule stands) slots id m 1 (λ x. x) (looked stands (step slots 1 0 0 none) m)
+  looks slots id t m mine idle s r _ at _ = let x : ℕ = get_or s.words 1 0 in let v : View I = m.0 in let is : x ≡ r.serving = word_is s r 1 in dite (ℕ_discrete x t)
+      (λ e. let served : v.ticket ≡ Some r.serving = mine ∙ ap (λ (k : ℕ). Some k) (sym e ∙ is) in let w : View I = with_turn v r.history in
+          let home = at_home stands s.views s.homes id r.next r.serving r.logged r.history v at r.queue r.hold idle served in (
+            w,
+            takes 0 (Some home.0),
+            ap (λ (hs : List (maybe.Option (Option T))). get_elem? hs 0) home.1,
+            record {
+              next = r.next;
+              serving = r.serving;
+              logged = r.logged;
+              history = r.history;
+              words = set-get_or s.words 1 0 ∙ r.words;
+              queue = queue_stays s.views id r.next r.serving v w at refl r.queue;
+              past = past_stays stands s.views id r.logged r.history v w at (inr refl) r.past;
+              hold = subst (λ (hs : List (maybe.Option (Option T))). Hold (set s.views id w) stands hs r.serving r.logged r.history) (sym (ap (λ (hs : List (maybe.Option (Option T))). set hs 0 none) home.1))
+                  (hold_takes stands s.views s.homes id r.next r.serving r.logged r.history v at r.queue r.hold idle served);
+            },
+            ((λ _. (r.history, home.0, refl, home.2, r.past.begun id v at)), λ no. absurd (no (mine ∙ ap (λ (k : ℕ). Some k) (sym e)))),
+          ))
+      (λ ne. (
+        v,
+        keeps,
+        tt,
+        unmoved s r 1 id m at,
+        ((λ e. let both : Some t ≡ Some x = sym mine ∙ e in absurd (ne (sym (same_some t x both)))), λ _. refl),
+      ))
+
+  pub logs_item : (slots id : ℕ) (m : Sat) (item : Option I) (x : I) (y : T) → m.0.turn ≡ Holding → m.1 ≡ (0, Some y) ∷ [] → item ≡ Some x → stands y (m.0.seen ++ x ∷ [])
+      → Allows (Rule stands) slots id m 2 (λ n. (n + 1) % 2 ^ 64) (logs item (step slots 2 1 0 none) m)
+  logs_item slots id m item x y holding hand named legal s r _ at _ = let n : ℕ = get_or s.words 2 0 in let v : View I = m.0 in let is : n ≡ r.logged = word_is s r 2 in let w : View I = with_item v x in
+      let q = r.queue in let now = r.hold.turn id v at (subst IsInTurn (sym holding) tt) in let few = not_logged stands s.views s.homes id r.next r.serving r.logged r.history v at q r.hold holding in
+      let range = q.in_range id v r.serving at now.0 in let below = q.below in let above = range.1 in let next_is : (n + 1) % 2 ^ 64 ≡ r.logged + 1 = omega arith in
+      let out = r.hold.out id v at holding in
+      let homes_are : homes_after s.homes m.1 gives ≡ some (Some y) ∷ [] = λ k. homes_after (out k) (hand k) gives in (
+        w,
+        gives,
+        tt,
+        record {
+          next = r.next;
+          serving = r.serving;
+          logged = r.logged + 1;
+          history = r.history ++ x ∷ [];
+          words = words_set s r 2 ((n + 1) % 2 ^ 64) ∙ ap (λ (k : ℕ). r.next ∷ r.serving ∷ k ∷ []) next_is;
+          queue = queue_stays s.views id r.next r.serving v w at refl q;
+          past = past_logs stands s.views id r.logged r.history v x y at now.1 legal r.past;
+          hold = subst (λ (hs : List (maybe.Option (Option T))). Hold (set s.views id w) stands hs r.serving (r.logged + 1) (r.history ++ x ∷ [])) (sym homes_are)
+              (hold_logs stands s.views s.homes id r.next r.serving r.logged r.history v at q r.hold x y holding legal);
+        },
+        (λ x' named'. let both : Some x ≡ Some x' = sym named ∙ named' in let same : x ≡ x' = cc (both) in
+            ((λ k. (with_item v (same k), rest (hand k))), is ∙ (r.past.counted ∙ ap length (sym now.1)))),
+      )
+
+  -- the turn is over, by a step after which the value y is at home
+  ends : (s : St) (r : Rule stands s) (id : ℕ) (m : Sat) (a : Act (Option T)) (y : T) → At s.views id m.0 → IsInTurn m.0.turn → stands y r.history → homes_after s.homes m.1 a ≡ some (Some y) ∷ []
+      → Rule stands (stepped s 1 ((get_or s.words 1 0 + 1) % 2 ^ 64) id m.1 (without_turn m.0) a)
+  ends s r id m a y at busy legal homes_are = let n : ℕ = get_or s.words 1 0 in let v : View I = m.0 in let is : n ≡ r.serving = word_is s r 1 in let w : View I = without_turn v in let q = r.queue in
+      let now = r.hold.turn id v at busy in let range = q.in_range id v r.serving at now.0 in let below = q.below in let above = range.1 in let next_is : (n + 1) % 2 ^ 64 ≡ r.serving + 1 = omega arith in record {
+        next = r.next;
+        serving = r.serving + 1;
+        logged = r.logged;
+        history = r.history;
+        words = words_set s r 1 ((n + 1) % 2 ^ 64) ∙ ap (λ (k : ℕ). r.next ∷ k ∷ r.logged ∷ []) next_is;
+        queue = queue_serves s.views id r.next r.serving v at now.0 q;
+        past = past_stays stands s.views id r.logged r.history v w at (inl refl) r.past;
+        hold = subst (λ (hs : List (maybe.Option (Option T))). Hold (set s.views id w) stands hs (r.serving + 1) r.logged r.history) (sym homes_are)
+            (hold_serves stands s.views s.homes id r.next r.serving r.logged r.history v at q r.hold y busy legal);
+      }
+
+  pub serves_held : (slots id : ℕ) (m : Sat) (y : T) → m.0.turn ≡ Holding → m.1 ≡ (0, Some y) ∷ [] → stands y m.0.seen → Allows (Rule stands) slots id m 1 (λ n. (n + 1) % 2 ^ 64) (served (step slots 1 1 0 none) m)
+  serves_held slots id m y holding hand legal s r _ at _ = let v : View I = m.0 in let busy = subst IsInTurn (sym holding) tt in let now = r.hold.turn id v at busy in let out = r.hold.out id v at holding in (
+    without_turn v,
+    gives,
+    tt,
+    ends s r id m gives y at busy (subst (stands y) now.1 legal) (λ k. homes_after (out k) (hand k) gives),
+    (λ k. (without_turn v, rest (hand k))),
+  )
+
+  pub serves_logged : (slots id : ℕ) (m : Sat) → m.0.turn ≡ HasLogged → m.1 ≡ [] → Allows (Rule stands) slots id m 1 (λ n. (n + 1) % 2 ^ 64) (served (step slots 1 1 0 none) m)
+  serves_logged slots id m done hand s r _ at _ = let v : View I = m.0 in let home = home_after stands s.views s.homes id r.next r.serving r.logged r.history v at r.queue r.hold done in (
+    without_turn v,
+    keeps,
+    tt,
+    ends s r id m keeps home.0 at (subst IsInTurn (sym done) tt) home.2 home.1,
+    (λ k. (without_turn v, hand k)),
+  )
+
+  -- a new lock
+  pub opens : (y : T) → stands y [] → Rule stands (opening (0 ∷ 0 ∷ 0 ∷ []) (Some y ∷ []) first_view)
+  opens y legal = let only = all_first in record {
+    next = 0;
+    serving = 0;
+    logged = 0;
+    history = [];
+    words = refl;
+    queue = record {
+      in_order = omega arith;
+      below = omega arith;
+      in_range = λ j v t at e. absurd (let no : None ≡ Some t = ap (λ (u : View I). u.ticket) (only j v at) ∙ e in cc (no));
+      each = λ t from below. absurd (omega arith);
+      once = λ j k v w t at _ e _. absurd (let no : None ≡ Some t = ap (λ (u : View I). u.ticket) (only j v at) ∙ e in cc (no));
+    };
+    past = record {
+      counted = refl;
+      legal = (y, legal);
+      begun = λ j v at. ([], append-nil v.seen ∙ sym (ap (λ (u : View I). u.seen) (only j v at)));
+      longest = (0, first_view, refl, refl);
+    };
+    hold = record {
+      turn = λ j v at busy. absurd (subst IsInTurn (sym (ap (λ (u : View I). u.turn) (only j v at))) busy);
+      out = λ j v at e. absurd (let no : Waiting ≡ Holding = ap (λ (u : View I). u.turn) (only j v at) ∙ e in cc (no));
+      slot = inr (y, refl, legal);
+      one_event = inl (omega arith);
+    };
+  }

@@ -36,6 +36,21 @@ module _ {A : Type 0} where
   pub some_snoc : (P : A → Type 0) (xs : List A) (y : A) → Somewhere xs P → Somewhere (xs ++ y ∷ []) P
   some_snoc P xs y s = (s.0, s.1, at_longer xs (y ∷ []) s.0 s.1 s.2, s.3)
 
+  -- what held of all after a change held of all before it, where it held of the old one if it holds of the new one
+  pub all_unset : (P : A → Type 0) (xs : List A) (i : ℕ) (x y : A) → At xs i x → (P y → P x) → ((j : ℕ) (z : A) → At (set xs i y) j z → P z) → (j : ℕ) (z : A) → At xs j z → P z
+  all_unset P xs i x y at back all j z there = dite (ℕ_discrete j i)
+      (λ e. subst P (at_once xs i j x z at there (sym e)) (back (all i y (here_set xs i x y at))))
+      (λ ne. all j z (set_else xs i j y ne ∙ there))
+
+  -- the same of pairs
+  pub pairs_set : (P : A → A → Type 0) (xs : List A) (i : ℕ) (y : A) → P y y → ((k : ℕ) (z : A) → k ≢ i → At xs k z → P y z) → ((j : ℕ) (x : A) → j ≢ i → At xs j x → P x y)
+      → ((j k : ℕ) (x z : A) → j ≢ i → k ≢ i → At xs j x → At xs k z → P x z) → (j k : ℕ) (x z : A) → At (set xs i y) j x → At (set xs i y) k z → P x z
+  pairs_set P xs i y yy yz xy xz j k x z a b = all_set (λ _ x. P x z) xs i y (all_set (λ _ z. P y z) xs i y yy yz k z b) (λ j x ne there. all_set (λ _ z. P x z) xs i y (xy j x ne there) (λ k z ne' there'. xz j k x z ne ne' there there') k z b) j x a
+
+  pub pairs_snoc : (P : A → A → Type 0) (xs : List A) (y : A) → P y y → ((k : ℕ) (z : A) → At xs k z → P y z) → ((j : ℕ) (x : A) → At xs j x → P x y)
+      → ((j k : ℕ) (x z : A) → At xs j x → At xs k z → P x z) → (j k : ℕ) (x z : A) → At (xs ++ y ∷ []) j x → At (xs ++ y ∷ []) k z → P x z
+  pairs_snoc P xs y yy yz xy xz j k x z a b = all_snoc (λ _ x. P x z) xs y (λ _. all_snoc (λ _ z. P y z) xs y (λ _. yy) yz k z b) (λ j x there. all_snoc (λ _ z. P x z) xs y (λ _. xy j x there) (λ k z there'. xz j k x z there there') k z b) j x a
+
 module _ {V S : Type 0} where
   -- what lies on top of the slots in hand
   pub in_hand : (m : V × List (ℕ × S)) (v : V) (x : ℕ × S) (xs : List (ℕ × S)) → m ≡ (v, x ∷ xs) → m.1 ≡ x ∷ rest m.1

@@ -1,5 +1,6 @@
 pub mod Lists
 pub mod Views
+pub mod Numbers
 pub mod Rule
 pub mod Steps
 pub mod Passes

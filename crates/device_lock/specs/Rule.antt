@@ -6,6 +6,7 @@ use mathlib.Core.Option as maybe
 use mathlib.Core.List.{IsPrefix}
 use Rattle.atomic_table.specs.Table.{State}
 use Rattle.device_lock.specs.Lists.{At, Somewhere}
+use Rattle.device_lock.specs.Numbers.{Numbers, Joined}
 use Rattle.device_lock.specs.Views.{IsInTurn}
 use Rattle.device_lock.specs.declared.view.View.{View}
 use Rattle.device_lock.specs.declared.view.Turn.TheVariants.{Holding, HasLogged}
@@ -41,7 +42,7 @@ module _ {I : Type 0} (views : List (View I)) where
       pub one_event : (logged ≤ serving) ⊎ ((logged ≤ serving + 1) × Somewhere views (λ v. v.turn ≡ HasLogged))
 
 -- the rule, whole
-pub record Rule {T I : Type 0} (stands : T → List I → Type 0) (s : State (Option T) (View I)) : Type 0 where
+pub record Rule {T I : Type 0} (caller : I → List ℕ) (stands : T → List I → Type 0) (at_rest : List I → Type 0) (s : State (Option T) (View I)) : Type 0 where
   pub next : ℕ
   pub serving : ℕ
   pub logged : ℕ
@@ -50,3 +51,5 @@ pub record Rule {T I : Type 0} (stands : T → List I → Type 0) (s : State (Op
   pub queue : Queue s.views next serving
   pub past : Past s.views stands logged history
   pub hold : Hold s.views stands s.homes serving logged history
+  pub numbers : Numbers s.views caller history
+  pub joined : Joined s.views at_rest history

@@ -1,5 +1,5 @@
 // The value in a caller's turn, and how the turn ends.
-ghost use Rattle.std.specs.Prelude.{◌≡◌, ◌≢◌, None, [], ◌∷◌};
+ghost use Rattle.std.specs.Prelude.{◌≡◌, false, None, [], ◌∷◌};
 ghost use Rattle.device_lock.specs.declared.view.Turn.TheVariants.{Holding, HasLogged};
 
 use crate::kept::{Kept, Names};
@@ -11,8 +11,8 @@ use crate::steps::{Log, Serve};
 // A turn in which nothing was logged, with the slot in hand and empty.
 pub struct Hand<T: Kept> {
     pub(crate) seat: Place<T>,
-    ghost hand: { seat.me.1 ≡ (0, None) ∷ [] },
-    ghost turn: { seat.me.0.turn ≡ Holding },
+    ghost slot: { seat.me.1 ≡ (0, None) ∷ [] },
+    ghost turn: { (seat.me.0.turn ≡ Holding) × (seat.me.0.spent ≡ false) },
 }
 
 /// The value, in the turn of the caller that took it. It has to be given back.
@@ -25,13 +25,14 @@ pub struct Held<T: Kept> {
 /// the turn is over. It has to be given back.
 pub struct Logged<T: Kept> {
     pub(crate) seat: Place<T>,
-    ghost hand: { seat.me.1 ≡ [] },
-    ghost turn: { seat.me.0.turn ≡ HasLogged },
+    ghost slot: { seat.me.1 ≡ [] },
+    ghost turn: { (seat.me.0.turn ≡ HasLogged) × (seat.me.0.spent ≡ false) },
 }
 
 impl<T: Kept> Held<T> {
     ghost use Rattle.std.specs.Prelude.{length, ◌++◌, Some};
     ghost use Rattle.std.specs.Borrow.{sem};
+    ghost use Rattle.device_lock.specs.Numbers.{Knows};
     ghost use Rattle.device_lock.specs.Views.{with_item, without_turn};
     ghost use Rattle.device_lock.specs.Passes.{lock_id, pass_lock, pass_view, held_lock, held_view, held_value, logged_lock, logged_view};
     ghost use Rattle.device_lock.specs.Lends.{lends_value};
@@ -66,6 +67,7 @@ impl<T: Kept> Held<T> {
         ensures lock { logged_lock result.0 ≡ lock_id lock.entry.now }
         ensures view { (x : T.Item) → W.item ≡ Some x → logged_view result.0 ≡ with_item (held_view self) x }
         ensures place { result.1 ≡ length (held_view self).seen }
+        ensures knows { Knows T.caller (logged_view result.0) }
     {
         let mut seat = self.put(lock);
         let place = lock.table.shared.fetch_add::<Log<W>>(&mut seat, LOGGED, 1);

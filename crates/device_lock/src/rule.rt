@@ -22,7 +22,7 @@ impl<T: Kept> TableRule<Option<T>, View<T::Item>, ()> for OneHistory<T> {
     ghost use Rattle.device_lock.specs.Views.{first_view};
     ghost use Rattle.device_lock.specs.Rule.{Rule};
 
-    ghost holds = { λ _. Rule T.stands };
+    ghost holds = { λ _. Rule T.caller T.stands T.at_rest };
 
     ghost first = { λ _. first_view };
 }

@@ -41,4 +41,6 @@ pub struct View<I> {
     pub turn: Turn,
     /// It was joined into another one.
     pub spent: bool,
+    /// The shorter of the two histories that were seen when another one was last joined into it.
+    pub met: LinkedList<I>,
 }

@@ -7,5 +7,5 @@ pub compare_exchange-found-requires : goal.compare_exchange-found-requires
 compare_exchange-found-requires g c = let same = c.loop.invariant in (
   search rules,
   search rules,
-  draws g.T.Kept.stands _ _ _ _ (subst (λ m. IsAway m.0) (sym same.1) c.requires.away) (omega arith),
+  draws g.T.Kept.caller g.T.Kept.stands g.T.Kept.at_rest _ _ _ _ (subst (λ m. IsAway m.0) (sym same.1) c.requires.away) (omega arith),
 )

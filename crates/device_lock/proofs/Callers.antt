@@ -1,11 +1,11 @@
 -- Numbers of callers, how often they stand in a list, and the items of a number.
-use Rattle.std.proofs.Common.{◌≡◌, ℕ, zero, suc, ◌+◌, ◌<◌, ◌≤◌, ◌≢◌, ◌⊎◌, inl, inr, ⊎_elim, ◌==◌, ◌&&◌, Bool, true, false, if◌then◌else◌, List, [], ◌∷◌, ◌++◌, length, map, filter, sym, refl, ap, ◌∙◌, subst, arith, append_assoc, length-append}
+use Rattle.std.proofs.Common.{◌≡◌, ℕ, ◌+◌, ◌≢◌, ◌⊎◌, inl, inr, ⊎_elim, ◌==◌, ◌&&◌, Bool, true, false, if◌then◌else◌, List, [], ◌∷◌, ◌++◌, length, filter, sym, refl, ap, ◌∙◌, arith, append_assoc, length-append}
 use mathlib.Core.List.{IsPrefix, append-nil}
 use Rattle.std.proofs.lemmas.Bool.Decides.{nat_tests}
 use Rattle.std.proofs.lemmas.List.Elements.{filter-append}
-use Rattle.device_lock.specs.Lists.{Each, total, same, times}
+use Rattle.device_lock.specs.Lists.{Each, same, times}
 use Rattle.device_lock.specs.Numbers.{items_of}
-use Rattle.device_lock.proofs.Sums.{by_bool, total_append}
+use Rattle.device_lock.proofs.Sums.{by_bool}
 
 pub same_self : (c : List ℕ) → same c c ≡ true
 same_self [] = refl

@@ -1,23 +1,20 @@
 -- What the rule says after a split and after a join, and of the lists that were joined.
-use Rattle.std.proofs.Common.{◌≡◌, ℕ, ◌+◌, ◌<◌, ◌≤◌, ◌≢◌, ◌⊎◌, inl, inr, List, [], ◌∷◌, ◌++◌, length, set, Option, Some, None, sym, refl, ap, ◌∙◌, subst, ⊎_elim, arith, append_assoc, length-append}
+use Rattle.std.proofs.Common.{◌≡◌, ℕ, ◌<◌, ◌≤◌, ◌≢◌, inl, inr, List, [], ◌∷◌, ◌++◌, length, set, Option, Some, None, sym, refl, ap, ◌∙◌, subst, ⊎_elim, arith, append_assoc, length-append}
 use mathlib.Core.Logic.{dite}
 use mathlib.Core.List.{IsPrefix, append-nil}
 use mathlib.Core.Option.{none, some}
 use mathlib.Core.Option as maybe
 use native.Mathlib.Decide.{ℕ_discrete}
-use lib.ListN.{get_elem?}
-use Rattle.atomic_table.proofs.Lists.{at_longer, set_else}
+use Rattle.atomic_table.proofs.Lists.{set_else}
 use Rattle.device_lock.specs.declared.view.Account.{Account}
 use Rattle.device_lock.specs.declared.view.View.{View}
-use Rattle.device_lock.specs.declared.view.Turn.{Turn}
 use Rattle.device_lock.specs.declared.view.Turn.TheVariants.{Waiting, Holding, HasLogged}
-use Rattle.device_lock.specs.Lists.{At, Somewhere, Each, longer, shorter}
+use Rattle.device_lock.specs.Lists.{At, Each}
 use Rattle.device_lock.specs.Views.{IsInTurn, with_item, split_left, split_right, joined_view, spent_view}
 use Rattle.device_lock.specs.Numbers.{Joined}
 use Rattle.device_lock.specs.Rule.{Queue, Past, Hold}
-use Rattle.device_lock.proofs.Places.{all_set, all_snoc, here_set, some_set, some_snoc, at_once, at_below}
-use Rattle.device_lock.proofs.Sums.{each_append, by_length, prefix_shorter, prefix_trans, prefix_self}
-use Rattle.device_lock.proofs.Turns.{queue_stays, past_stays, hold_stays}
+use Rattle.device_lock.proofs.Places.{all_set, all_snoc, here_set, some_snoc, at_once}
+use Rattle.device_lock.proofs.Sums.{each_append, by_length}
 
 module _ {I : Type 0} (at_rest : List I → Type 0) where
   further : (history xs : List I) (x : I) → IsPrefix xs history → IsPrefix xs (history ++ x ∷ [])

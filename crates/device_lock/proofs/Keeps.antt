@@ -1,5 +1,5 @@
 -- Each step keeps the rule, and tells what it says it does.
-use Rattle.std.proofs.Common.{◌≡◌, ℕ, zero, suc, ◌+◌, ◌-◌, ◌%◌, if◌then◌else◌, ◌^◌, ◌<◌, ◌≤◌, eqb, false, ◌≢◌, ◌⊎◌, inl, inr, List, [], ◌∷◌, ◌++◌, length, get_or, set, Option, Some, None, sym, refl, ap, ◌∙◌, subst, ⊎_elim, arith, eq-eqb, ne_eqb}
+use Rattle.std.proofs.Common.{◌≡◌, ℕ, zero, suc, ◌+◌, ◌-◌, ◌%◌, if◌then◌else◌, ◌^◌, ◌<◌, ◌≤◌, eqb, false, inl, inr, List, [], ◌∷◌, ◌++◌, length, get_or, set, Option, Some, None, sym, refl, ap, ◌∙◌, subst, arith, eq-eqb, ne_eqb}
 use mathlib.Core.Logic.{dite}
 use mathlib.Core.List.{IsPrefix, append-nil}
 use mathlib.Core.Option.{none, some, some-injective, some-ne-none}
@@ -11,13 +11,12 @@ use prog.Atomic.{either}
 use Rattle.atomic_table.proofs.Lists.{set_again, set_else}
 use Rattle.atomic_table.specs.Table.{State, Me, Act, step, keeps, takes, gives, rest, homes_after, stepped, Allows, Splits, Joins, opening}
 use Rattle.device_lock.specs.declared.view.View.{View}
-use Rattle.device_lock.specs.declared.view.Turn.{Turn}
 use Rattle.device_lock.specs.declared.view.Turn.TheVariants.{Waiting, Holding, HasLogged}
-use Rattle.device_lock.specs.Lists.{At, Somewhere, Each}
+use Rattle.device_lock.specs.Lists.{At, Each}
 use Rattle.device_lock.specs.Views.{IsInTurn, IsAway, first_view, with_ticket, with_turn, with_item, without_turn, split_left, split_right, joined_view, spent_view}
-use Rattle.device_lock.specs.Rule.{Queue, Past, Hold, Rule}
+use Rattle.device_lock.specs.Rule.{Queue, Hold, Rule}
 use Rattle.device_lock.specs.Steps.{drew, looked, logs, learned, served}
-use Rattle.device_lock.proofs.Places.{at_once, at_below, here_set}
+use Rattle.device_lock.proofs.Places.{here_set}
 use Rattle.device_lock.specs.Lists.{same}
 use Rattle.device_lock.specs.Views.{numbers}
 use Rattle.device_lock.specs.Numbers.{Keeps}

@@ -6,3 +6,4 @@ pub mod Numbered
 pub mod Turns
 pub mod Joins
 pub mod Keeps
+pub mod Histories

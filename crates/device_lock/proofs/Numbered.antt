@@ -1,22 +1,21 @@
 -- What the rule says of numbers, own lists and shares, after a step.
-use Rattle.std.proofs.Common.{◌≡◌, ℕ, zero, suc, ◌+◌, ◌-◌, ◌*◌, ◌^◌, ◌<◌, ◌≤◌, ◌≢◌, ◌⊎◌, inl, inr, Bool, true, false, if◌then◌else◌, List, [], ◌∷◌, ◌++◌, length, map, set, Option, Some, None, sym, refl, ap, ◌∙◌, subst, ⊎_elim, arith, append_assoc, length-append, le_refl}
+use Rattle.std.proofs.Common.{◌≡◌, ℕ, ◌+◌, ◌-◌, ◌*◌, ◌^◌, ◌<◌, ◌≤◌, ◌≢◌, ◌⊎◌, Bool, true, false, if◌then◌else◌, List, [], ◌∷◌, ◌++◌, map, set, Option, sym, refl, ap, ◌∙◌, subst, ⊎_elim, arith, le_refl}
 use mathlib.Core.Logic.{dite}
 use mathlib.Core.List.{IsPrefix, append-nil, map-append}
 use native.Mathlib.Decide.{ℕ_discrete}
-use lib.ListN.{get_elem?}
 use Rattle.device_lock.specs.declared.view.Account.{Account}
 use Rattle.device_lock.specs.declared.view.View.{View}
 use Rattle.device_lock.specs.declared.view.Turn.{Turn}
-use Rattle.device_lock.specs.Lists.{At, Each, total, same, times, longer, shorter}
-use Rattle.device_lock.specs.Views.{IsWhole, numbers, half, both_shares, with_item, split_left, split_right, joined_view, spent_view}
+use Rattle.device_lock.specs.Lists.{At, Each, total, same, times}
+use Rattle.device_lock.specs.Views.{IsWhole, numbers, with_item, split_left, split_right, joined_view, spent_view}
 use Rattle.device_lock.specs.Numbers.{items_of, Keeps, Knows, places, shares, Numbers}
-use Rattle.device_lock.proofs.Places.{all_set, all_snoc, here_set, some_set, at_once, all_unset, pairs_set, pairs_snoc}
+use Rattle.device_lock.proofs.Places.{all_set, all_snoc, here_set, all_unset, pairs_set, pairs_snoc}
 use Rattle.atomic_table.proofs.Lists.{at_longer, set_else}
 use Rattle.std.proofs.lemmas.Nat.{pow_pos}
 use Rattle.std.proofs.Math.Nat.{mul-pos}
 use Rattle.device_lock.proofs.Parts.{half_part, both_part, whole_part}
-use Rattle.device_lock.proofs.Sums.{by_bool, total_set, total_append, part_of, two_of, total_none, total_one, each_map, each_zip, each_append, prefix_shorter, prefix_self, by_length}
-use Rattle.device_lock.proofs.Callers.{same_self, same_is, not_same, times_none, times_here, times_other, items_mine, items_other, items_between, not_among, prefix_snoc, snoc_is, no_longer, prefix_front}
+use Rattle.device_lock.proofs.Sums.{by_bool, total_set, total_append, part_of, two_of, total_none, total_one, each_map, each_zip, each_append, prefix_shorter, by_length}
+use Rattle.device_lock.proofs.Callers.{same_self, same_is, not_same, times_none, times_here, items_mine, items_other, items_between, not_among, prefix_snoc, snoc_is, no_longer, prefix_front}
 
 module _ {I : Type 0} where
   -- of a pass that was not joined into another one
@@ -182,14 +181,15 @@ module _ {I : Type 0} (caller : I → List ℕ) where
             (λ j u _ a. all_set (λ _ u. u.spent ≡ false → 0 < u.share.parts) vs id b (λ _. let p : 0 < v.share.parts * 2 ^ w.share.halvings = mul-pos (n.some_share id v at live) (pow_pos w.share.halvings) in omega arith) (λ j u _ a. n.some_share j u a) j u a);
       }
 
-  stray : (ns : List (List ℕ)) (xs : List I) → ((c : List ℕ) → times c ns ≡ 0 → items_of caller c xs ≡ []) → Each (λ x. 0 < times (caller x) ns) xs
-  stray ns [] none = tt
-  stray ns (x ∷ xs) none = (
-    dite (ℕ_discrete (times (caller x) ns) 0)
+  -- each item has a number that counts, where numbers that don't have no item
+  pub stray_from : (f : List ℕ → ℕ) (xs : List I) → ((c : List ℕ) → f c ≡ 0 → items_of caller c xs ≡ []) → Each (λ x. 0 < f (caller x)) xs
+  stray_from f [] none = tt
+  stray_from f (x ∷ xs) none = (
+    dite (ℕ_discrete (f (caller x)) 0)
     (λ z. let all : (if same (caller x) (caller x) then x ∷ items_of caller (caller x) xs else items_of caller (caller x) xs) ≡ [] = none (caller x) z in
         let first : x ∷ items_of caller (caller x) xs ≡ [] = sym (ap (λ (b : Bool). if b then x ∷ items_of caller (caller x) xs else items_of caller (caller x) xs) (same_self (caller x))) ∙ all in absurd (cc (first)))
     (λ some_there. omega arith),
-    stray ns xs (λ c z. by_bool (λ b. (if b then x ∷ items_of caller c xs else items_of caller c xs) ≡ [] → items_of caller c xs ≡ []) (same c (caller x)) (λ _ e. absurd (cc (e))) (λ _ e. e) (none c z)),
+    stray_from f xs (λ c z. by_bool (λ b. (if b then x ∷ items_of caller c xs else items_of caller c xs) ≡ [] → items_of caller c xs ≡ []) (same c (caller x)) (λ _ e. absurd (cc (e))) (λ _ e. e) (none c z)),
   )
 
   -- Who has the whole share keeps each number that was given.
@@ -204,4 +204,4 @@ module _ {I : Type 0} (caller : I → List ℕ) where
 
   -- What the rule tells a pass of what it has seen.
   pub knows : (vs : List (View I)) (id : ℕ) (history : List I) (v : View I) → At vs id v → v.spent ≡ false → IsPrefix v.seen history → Numbers vs caller history → Knows caller v
-  knows vs id history v at live begun n = ((n.kept id v at live).1, λ all. stray (numbers v) v.seen (λ c none. items_between caller c [] v.seen history [] (v.seen, refl) begun refl (n.others c (alone vs id history v c at all n ∙ none))))
+  knows vs id history v at live begun n = ((n.kept id v at live).1, λ all. stray_from (λ c. times c (numbers v)) v.seen (λ c none. items_between caller c [] v.seen history [] (v.seen, refl) begun refl (n.others c (alone vs id history v c at all n ∙ none))))

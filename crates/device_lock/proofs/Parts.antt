@@ -1,6 +1,6 @@
 -- Shares, in parts of a common power of two.
-use Rattle.std.proofs.Common.{◌≡◌, ℕ, ◌+◌, ◌-◌, ◌*◌, ◌^◌, ◌<◌, ◌≤◌, sym, refl, ap, ◌∙◌, arith}
-use Rattle.std.proofs.lemmas.Nat.{pow-add, pow_pos}
+use Rattle.std.proofs.Common.{◌≡◌, ℕ, ◌+◌, ◌-◌, ◌*◌, ◌^◌, ◌≤◌, sym, ap, ◌∙◌, arith}
+use Rattle.std.proofs.lemmas.Nat.{pow-add}
 
 -- two halves are the whole
 pub half_part : (p h e : ℕ) → h + 1 ≤ e → p * 2 ^ (e - h) ≡ p * 2 ^ (e - (h + 1)) + p * 2 ^ (e - (h + 1))

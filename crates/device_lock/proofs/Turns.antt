@@ -1,16 +1,15 @@
 -- What the rule says of tickets, of the history and of the value, after one seat's view was changed.
-use Rattle.std.proofs.Common.{◌≡◌, ℕ, ◌+◌, ◌^◌, ◌<◌, ◌≤◌, ◌≢◌, ◌⊎◌, inl, inr, List, [], ◌∷◌, ◌++◌, length, set, Option, Some, None, sym, refl, ap, ◌∙◌, subst, ⊎_elim, arith, append_assoc, length-append}
+use Rattle.std.proofs.Common.{◌≡◌, ℕ, ◌+◌, ◌^◌, ◌<◌, ◌≤◌, ◌≢◌, ◌⊎◌, inl, inr, List, [], ◌∷◌, ◌++◌, set, Option, Some, None, sym, refl, ap, ◌∙◌, subst, ⊎_elim, arith, append_assoc, length-append}
 use mathlib.Core.Logic.{dite}
 use mathlib.Core.List.{IsPrefix, append-nil}
 use mathlib.Core.Option.{none, some}
 use mathlib.Core.Option as maybe
 use native.Mathlib.Decide.{ℕ_discrete}
-use lib.ListN.{get_elem?}
 use Rattle.atomic_table.proofs.Lists.{at_set}
 use Rattle.device_lock.specs.declared.view.View.{View}
 use Rattle.device_lock.specs.declared.view.Turn.{Turn}
 use Rattle.device_lock.specs.declared.view.Turn.TheVariants.{Waiting, Holding, HasLogged}
-use Rattle.device_lock.specs.Lists.{At, Somewhere}
+use Rattle.device_lock.specs.Lists.{At}
 use Rattle.device_lock.specs.Views.{IsInTurn, with_ticket, with_turn, with_item, without_turn}
 use Rattle.device_lock.specs.Rule.{Queue, Past, Hold}
 use Rattle.device_lock.proofs.Places.{all_set, here_set, some_set, at_once}

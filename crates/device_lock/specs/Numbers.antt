@@ -1,9 +1,8 @@
 -- Whose items they are.
-use Rattle.std.specs.Prelude.{◌≡◌, ◌⊎◌, ℕ, ◌+◌, ◌-◌, ◌*◌, ◌^◌, ◌<◌, ◌≤◌, false, List, [], ◌∷◌, ◌++◌, map, filter}
+use Rattle.std.specs.Prelude.{◌≡◌, ℕ, ◌-◌, ◌*◌, ◌^◌, ◌<◌, ◌≤◌, false, List, [], ◌∷◌, ◌++◌, filter}
 use mathlib.Core.List.{IsPrefix}
 use Rattle.device_lock.specs.Lists.{At, Each, total, same, times}
 use Rattle.device_lock.specs.Views.{numbers, IsWhole}
-use Rattle.device_lock.specs.declared.view.Account.{Account}
 use Rattle.device_lock.specs.declared.view.View.{View}
 
 module _ {I : Type 0} (caller : I → List ℕ) where

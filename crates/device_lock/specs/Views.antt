@@ -1,7 +1,6 @@
 -- What a pass knows, and how its steps change it.
 use Rattle.std.specs.Prelude.{◌≡◌, ℕ, ◌+◌, ◌*◌, ◌^◌, if◌then◌else◌, List, [], ◌∷◌, ◌++◌, map, Some, None, true, false}
-use Rattle.device_lock.specs.Lists.{longer, shorter, times}
-use Rattle.device_lock.specs.declared.view.Account.{Account}
+use Rattle.device_lock.specs.Lists.{longer, shorter}
 use Rattle.device_lock.specs.declared.view.Share.{Share}
 use Rattle.device_lock.specs.declared.view.View.{View}
 use Rattle.device_lock.specs.declared.view.Turn.{Turn}

@@ -8,6 +8,7 @@
 
 mod held;
 mod kept;
+mod laws;
 mod lock;
 mod pass;
 mod rule;
@@ -16,6 +17,7 @@ mod view;
 
 pub use held::{Held, Logged};
 pub use kept::{Kept, Names};
+pub use laws::one_history;
 pub use lock::Lock;
 pub use pass::LockPass;
 pub use view::{Account, Share, Turn, View};

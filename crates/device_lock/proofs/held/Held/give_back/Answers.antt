@@ -1,4 +1,4 @@
-use Rattle.std.proofs.Common.{rules, sym, ◌∙◌, subst, ◌≡◌}
+use Rattle.std.proofs.Common.{rules, sym, subst, ◌≡◌}
 use Rattle.device_lock.specs.declared.view.Turn.TheVariants.{Holding}
 use Rattle.device_lock.proofs.Keeps.{serves_held}
 use Rattle.device_lock.proofs.held.Held.give_back.Goals as goal

@@ -1,4 +1,4 @@
-use Rattle.std.proofs.Common.{rules, arith, List, ℕ, Option, sym, ◌∙◌, subst, ◌≡◌}
+use Rattle.std.proofs.Common.{rules, arith, sym, subst}
 use Rattle.device_lock.specs.Views.{IsAway}
 use Rattle.device_lock.proofs.Keeps.{draws}
 use Rattle.device_lock.proofs.lock.Lock.draw.Goals as goal

@@ -1,4 +1,4 @@
-use Rattle.std.proofs.Common.{rules, List, [], ◌∷◌, Option, Some, sym, subst, ◌≡◌, ◌∙◌, ap, ◌++◌}
+use Rattle.std.proofs.Common.{rules, List, [], ◌∷◌, Option, Some, sym, subst, ◌≡◌}
 use Rattle.atomic_table.specs.Table.{opening}
 use Rattle.device_lock.specs.Rule.{Rule}
 use Rattle.device_lock.specs.Views.{first_view}

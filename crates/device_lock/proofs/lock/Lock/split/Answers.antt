@@ -1,4 +1,4 @@
-use Rattle.std.proofs.Common.{rules, sym, ◌∙◌, subst, ap, ◌≡◌, false}
+use Rattle.std.proofs.Common.{rules}
 use Rattle.device_lock.proofs.Keeps.{splits, learns}
 use Rattle.device_lock.proofs.lock.Lock.split.Goals as goal
 

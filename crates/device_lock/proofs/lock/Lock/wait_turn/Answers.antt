@@ -1,4 +1,4 @@
-use Rattle.std.proofs.Common.{rules, arith, List, ℕ, Option, Some, false, sym, ◌∙◌, subst, ◌≡◌}
+use Rattle.std.proofs.Common.{rules, Some, false, sym, subst, ◌≡◌}
 use Rattle.device_lock.specs.declared.view.Turn.TheVariants.{Waiting}
 use Rattle.device_lock.proofs.Keeps.{looks}
 use Rattle.device_lock.proofs.lock.Lock.wait_turn.Goals as goal

@@ -30,7 +30,7 @@ pub struct Logged<T: Kept> {
 }
 
 impl<T: Kept> Held<T> {
-    ghost use Rattle.std.specs.Prelude.{length, ◌++◌, Some};
+    ghost use Rattle.std.specs.Prelude.{length, ◌++◌, Some, IfSome};
     ghost use Rattle.std.specs.Borrow.{sem};
     ghost use Rattle.device_lock.specs.Numbers.{Knows};
     ghost use Rattle.device_lock.specs.Views.{with_item, without_turn};
@@ -65,7 +65,7 @@ impl<T: Kept> Held<T> {
         requires lock { held_lock self ≡ lock_id lock.now }
         requires item { (x : T.Item) × (W.item ≡ Some x) × (T.caller x ≡ (held_view self).number) × T.stands (held_value self) ((held_view self).seen ++ x ∷ []) }
         ensures lock { logged_lock result.0 ≡ lock_id lock.entry.now }
-        ensures view { (x : T.Item) → W.item ≡ Some x → logged_view result.0 ≡ with_item (held_view self) x }
+        ensures view { IfSome W.item (λ x. logged_view result.0 ≡ with_item (held_view self) x) }
         ensures place { result.1 ≡ length (held_view self).seen }
         ensures knows { Knows T.caller (logged_view result.0) }
     {

@@ -13,6 +13,8 @@ mod lock;
 mod pass;
 mod rule;
 mod steps;
+#[cfg(test)]
+mod tests;
 mod view;
 
 pub use held::{Held, Logged};

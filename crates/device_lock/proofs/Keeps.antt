@@ -1,5 +1,5 @@
 -- Each step keeps the rule, and tells what it says it does.
-use Rattle.std.proofs.Common.{◌≡◌, ℕ, zero, suc, ◌+◌, ◌-◌, ◌%◌, if◌then◌else◌, ◌^◌, ◌<◌, ◌≤◌, eqb, false, inl, inr, List, [], ◌∷◌, ◌++◌, length, get_or, set, Option, Some, None, sym, refl, ap, ◌∙◌, subst, arith, eq-eqb, ne_eqb}
+use Rattle.std.proofs.Common.{◌≡◌, ℕ, zero, suc, ◌+◌, ◌-◌, ◌%◌, if◌then◌else◌, ◌^◌, ◌<◌, ◌≤◌, eqb, false, inl, inr, List, [], ◌∷◌, ◌++◌, length, get_or, set, Option, Some, None, IsSome, IfSome, sym, refl, ap, ◌∙◌, subst, arith, eq-eqb, ne_eqb}
 use mathlib.Core.Logic.{dite}
 use mathlib.Core.List.{IsPrefix, append-nil}
 use mathlib.Core.Option.{none, some, some-injective, some-ne-none}
@@ -25,6 +25,11 @@ use Rattle.device_lock.proofs.Sums.{by_bool, prefix_self, prefix_shorter}
 use Rattle.device_lock.proofs.Numbered.{numbers_stay, numbers_log, numbers_split, numbers_join, knows}
 use Rattle.device_lock.proofs.Joins.{joined_stay, joined_log, joined_split, joined_join, queue_more, past_more, hold_more, past_join}
 use Rattle.device_lock.proofs.Turns.{queue_draws, queue_stays, queue_serves, past_stays, past_logs, hold_stays, at_home, hold_takes, not_logged, hold_logs, hold_serves, home_after}
+
+-- what is so of the item that is named
+pub named : {I : Type 0} (P Q : I → Type 0) (item : Option I) → IsSome item → IfSome item P → IfSome item Q → (x : I) × (item ≡ Some x) × P x × Q x
+named P Q (Some x) is p q = (x, refl, p, q)
+named P Q None is p q = absurd (cc (is))
 
 module _ {I T : Type 0} (caller : I → List ℕ) (stands : T → List I → Type 0) (at_rest : List I → Type 0) where
   abbrev St : Type 0

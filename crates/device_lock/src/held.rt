@@ -30,7 +30,7 @@ pub struct Logged<T: Kept> {
 }
 
 impl<T: Kept> Held<T> {
-    ghost use Rattle.std.specs.Prelude.{length, ◌++◌, Some, IfSome};
+    ghost use Rattle.std.specs.Prelude.{length, ◌++◌, Some, IsSome, IfSome};
     ghost use Rattle.std.specs.Borrow.{sem};
     ghost use Rattle.device_lock.specs.Numbers.{Knows};
     ghost use Rattle.device_lock.specs.Views.{with_item, without_turn};
@@ -63,7 +63,9 @@ impl<T: Kept> Held<T> {
     /// the history with the item.
     pub fn log<W: Names<T::Item>>(self, lock: &Lock<T>) -> (Logged<T>, u64)
         requires lock { held_lock self ≡ lock_id lock.now }
-        requires item { (x : T.Item) × (W.item ≡ Some x) × (T.caller x ≡ (held_view self).number) × T.stands (held_value self) ((held_view self).seen ++ x ∷ []) }
+        requires item { IsSome W.item }
+        requires own { IfSome W.item (λ x. T.caller x ≡ (held_view self).number) }
+        requires value { IfSome W.item (λ x. T.stands (held_value self) ((held_view self).seen ++ x ∷ [])) }
         ensures lock { logged_lock result.0 ≡ lock_id lock.entry.now }
         ensures view { IfSome W.item (λ x. logged_view result.0 ≡ with_item (held_view self) x) }
         ensures place { result.1 ≡ length (held_view self).seen }
@@ -81,9 +83,9 @@ impl<T: Kept> Held<T> {
         ensures lock { pass_lock result ≡ lock_id lock.entry.now }
         ensures view { pass_view result ≡ without_turn (held_view self) }
     {
-        let mut seat = self.put(lock);
-        lock.table.shared.fetch_add::<Serve>(&mut seat, SERVING, 1);
-        LockPass { seat }
+        let mut home = self.put(lock);
+        lock.table.shared.fetch_add::<Serve>(&mut home, SERVING, 1);
+        LockPass { seat: home }
     }
 }
 

@@ -192,16 +192,25 @@ module _ {I : Type 0} (caller : I → List ℕ) where
     stray_from f xs (λ c z. by_bool (λ b. (if b then x ∷ items_of caller c xs else items_of caller c xs) ≡ [] → items_of caller c xs ≡ []) (same c (caller x)) (λ _ e. absurd (cc (e))) (λ _ e. e) (none c z)),
   )
 
+  -- beside the whole share there is no other
+  pub no_other : (vs : List (View I)) (id j : ℕ) (history : List I) (v u : View I) → At vs id v → At vs j u → j ≢ id → u.spent ≡ false → IsWhole v.share → Numbers vs caller history → ⊥
+  no_other vs id j history v u at there ne on all n = let e : ℕ = total (λ u. u.share.halvings) vs in let f : View I → ℕ = λ u. u.share.parts * 2 ^ (e - u.share.halvings) in
+      let most : shares vs e ≤ 2 ^ e = n.at_most_whole e (λ k z a. part_of (λ u. u.share.halvings) vs k z a) in
+      let two : f v + f u ≤ total f vs = two_of f vs id j v u at there ne in
+      let mine : f v ≡ 2 ^ e = ap (λ p. p * 2 ^ (e - v.share.halvings)) all ∙ whole_part v.share.halvings e (part_of (λ u. u.share.halvings) vs id v at) in
+      let more : 0 < f u = mul-pos (n.some_share j u there on) (pow_pos (e - u.share.halvings)) in omega arith
+
+  -- two passes have two numbers
+  pub one_number : (vs : List (View I)) (id j : ℕ) (history : List I) (v u : View I) → At vs id v → At vs j u → v.spent ≡ false → u.spent ≡ false → u.number ≡ v.number → Numbers vs caller history → j ≡ id
+  one_number vs id j history v u at there live on is n = dite (ℕ_discrete j id) (λ e. e) (λ ne. let none = apart vs id j history v u at there ne live n in let one = has_own u on in
+      let none' : times u.number (numbers u) ≡ 0 = ap (λ c. times c (numbers u)) is ∙ none in absurd (omega arith))
+
   -- Who has the whole share keeps each number that was given.
   alone : (vs : List (View I)) (id : ℕ) (history : List I) (v : View I) (c : List ℕ) → At vs id v → IsWhole v.share → Numbers vs caller history → places vs c ≡ times c (numbers v)
   alone vs id history v c at all n = total_one (λ u. times c (numbers u)) vs id v at (λ j u ne there. by_bool (λ b. u.spent ≡ b → times c (numbers u) ≡ 0) u.spent
       (λ _ gone. ap (λ (b : Bool). times c (if b then [] else u.number ∷ map (λ a. a.number) u.joined)) gone)
-      (λ _ on. let e : ℕ = total (λ u. u.share.halvings) vs in let f : View I → ℕ = λ u. u.share.parts * 2 ^ (e - u.share.halvings) in
-          let most : shares vs e ≤ 2 ^ e = n.at_most_whole e (λ k z a. part_of (λ u. u.share.halvings) vs k z a) in
-          let two : f v + f u ≤ total f vs = two_of f vs id j v u at there ne in
-          let mine : f v ≡ 2 ^ e = ap (λ p. p * 2 ^ (e - v.share.halvings)) all ∙ whole_part v.share.halvings e (part_of (λ u. u.share.halvings) vs id v at) in
-          let more : 0 < f u = mul-pos (n.some_share j u there on) (pow_pos (e - u.share.halvings)) in absurd (omega arith)) refl)
+      (λ _ on. absurd (no_other vs id j history v u at there ne on all n)) refl)
 
   -- What the rule tells a pass of what it has seen.
   pub knows : (vs : List (View I)) (id : ℕ) (history : List I) (v : View I) → At vs id v → v.spent ≡ false → IsPrefix v.seen history → Numbers vs caller history → Knows caller v
-  knows vs id history v at live begun n = ((n.kept id v at live).1, λ all. stray_from (λ c. times c (numbers v)) v.seen (λ c none. items_between caller c [] v.seen history [] (v.seen, refl) begun refl (n.others c (alone vs id history v c at all n ∙ none))))
+  knows vs id history v at live begun n = ((n.kept id v at live).1, n.some_share id v at live, λ all. stray_from (λ c. times c (numbers v)) v.seen (λ c none. items_between caller c [] v.seen history [] (v.seen, refl) begun refl (n.others c (alone vs id history v c at all n ∙ none))))

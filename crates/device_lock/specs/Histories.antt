@@ -4,6 +4,7 @@ use mathlib.Core.List.{IsPrefix}
 use Rattle.atomic_table.specs.Table.{State}
 use Rattle.device_lock.specs.Lists.{At, Each}
 use Rattle.device_lock.specs.Numbers.{Keeps, places}
+use Rattle.device_lock.specs.Views.{IsWhole}
 use Rattle.device_lock.specs.Rule.{Rule}
 use Rattle.device_lock.specs.declared.view.View.{View}
 
@@ -19,3 +20,11 @@ module _ {T I : Type 0} (caller : I → List ℕ) (stands : T → List I → Typ
   -- no item has a number that was not given
   abbrev pub AllGiven : Type 0
   AllGiven = (s : State (Option T) (View I)) → Rule caller stands at_rest s → (j : ℕ) (v : View I) → At s.views j v → Each (λ x. 0 < places s.views (caller x)) v.seen
+
+  -- no two passes have one number
+  abbrev pub OneNumber : Type 0
+  OneNumber = (s : State (Option T) (View I)) → Rule caller stands at_rest s → (j k : ℕ) (v w : View I) → At s.views j v → At s.views k w → v.spent ≡ false → w.spent ≡ false → v.number ≡ w.number → j ≡ k
+
+  -- a pass with the whole share is the only one
+  abbrev pub OnePass : Type 0
+  OnePass = (s : State (Option T) (View I)) → Rule caller stands at_rest s → (j k : ℕ) (v w : View I) → At s.views j v → At s.views k w → v.spent ≡ false → w.spent ≡ false → IsWhole w.share → j ≡ k

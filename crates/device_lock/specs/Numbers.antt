@@ -18,9 +18,10 @@ module _ {I : Type 0} (caller : I → List ℕ) where
   abbrev pub AreKept : View I → List I → Type 0
   AreKept v history = Each (λ x. 0 < times (caller x) (numbers v)) history
 
-  -- What a pass knows of what it has seen: which items of it are its own, and that with the whole share all are kept by it.
+  -- What a pass knows of what it has seen: which items of it are its own, that it has some
+  -- share, and that with the whole share all items are kept by it.
   abbrev pub Knows : View I → Type 0
-  Knows v = Keeps v v.seen × (IsWhole v.share → AreKept v v.seen)
+  Knows v = Keeps v v.seen × (0 < v.share.parts) × (IsWhole v.share → AreKept v v.seen)
 
 module _ {I : Type 0} (views : List (View I)) where
   -- at how many places the number stands

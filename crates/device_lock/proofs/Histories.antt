@@ -1,9 +1,7 @@
 -- What the rule means for any two passes.
-use Rattle.std.proofs.Common.{◌≡◌, ℕ, ◌<◌, ◌≤◌, ◌⊎◌, inl, inr, List, length, [], refl, arith}
+use Rattle.std.proofs.Common.{ℕ, inl, inr, List, length, [], refl, arith}
 use mathlib.Core.Logic.{dite}
-use mathlib.Core.List.{IsPrefix}
 use native.Mathlib.Decide.{dec_le, ℕ_discrete}
-use Rattle.device_lock.specs.Lists.{Each}
 use Rattle.device_lock.specs.Numbers.{places}
 use Rattle.device_lock.specs.Histories.{OneHistory, InOrder, AllGiven, OneNumber, OnePass}
 use Rattle.device_lock.proofs.Sums.{prefix_shorter}

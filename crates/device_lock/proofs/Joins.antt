@@ -43,7 +43,7 @@ module _ {I : Type 0} (at_rest : List I → Type 0) where
   joined_join vs id other history v w at there begun begun' still r = let b : View I = joined_view v w in record {
     rests = all_set (λ _ u. Each (λ a. at_rest a.own) u.joined) (set vs id b) other spent_view tt
         (λ j u _ a. all_set (λ _ u. Each (λ a. at_rest a.own) u.joined) vs id b
-            (each_append (λ (a : Account I). at_rest a.own) v.joined (record { number = w.number; own = w.own } ∷ w.joined) (r.rests id v at) (still, r.rests other w there)) (λ j u _ a. r.rests j u a) j u a);
+        (each_append (λ (a : Account I). at_rest a.own) v.joined (record { number = w.number; own = w.own } ∷ w.joined) (r.rests id v at) (still, r.rests other w there)) (λ j u _ a. r.rests j u a) j u a);
     met = all_set (λ _ u. IsPrefix u.met history) (set vs id b) other spent_view (history, refl)
         (λ j u _ a. all_set (λ _ u. IsPrefix u.met history) vs id b (by_length (λ long short. IsPrefix short history) v.seen w.seen (λ _. begun) (λ _. begun')) (λ j u _ a. r.met j u a) j u a);
   }
@@ -96,10 +96,18 @@ module _ {I T : Type 0} (stands : T → List I → Type 0) where
         begun = all_set (λ _ u. IsPrefix u.seen history) ws other spent_view (history, refl)
             (λ j u _ a. all_set (λ _ u. IsPrefix u.seen history) vs id b (by_length (λ long short. IsPrefix long history) v.seen w.seen (λ _. bw) (λ _. bv)) (λ j u _ a. p.begun j u a) j u a);
         longest = let l = p.longest in dite (ℕ_discrete l.0 id)
-            (λ is. let e : v.seen ≡ history = ap (λ (u : View I). u.seen) (at_once vs id l.0 v l.1 at l.2 (sym is)) ∙ l.3 in (id, b, here,
-                by_length (λ long short. long ≡ history) v.seen w.seen (λ less. let n = ap length e in let m = length-append w.seen bw.0 in let o = ap length bw.1 in absurd (omega arith)) (λ _. e)))
+            (λ is. let e : v.seen ≡ history = ap (λ (u : View I). u.seen) (at_once vs id l.0 v l.1 at l.2 (sym is)) ∙ l.3 in (
+              id,
+              b,
+              here,
+              by_length (λ long short. long ≡ history) v.seen w.seen (λ less. let n = ap length e in let m = length-append w.seen bw.0 in let o = ap length bw.1 in absurd (omega arith)) (λ _. e),
+            ))
             (λ isnt. dite (ℕ_discrete l.0 other)
-                (λ is. let e : w.seen ≡ history = ap (λ (u : View I). u.seen) (at_once vs other l.0 w l.1 there l.2 (sym is)) ∙ l.3 in (id, b, here,
-                    by_length (λ long short. long ≡ history) v.seen w.seen (λ _. e) (λ more. let n = ap length e in whole v.seen history bv (omega arith))))
-                (λ isnt'. (l.0, l.1, set_else ws other l.0 spent_view isnt' ∙ (set_else vs id l.0 b isnt ∙ l.2), l.3)));
+            (λ is. let e : w.seen ≡ history = ap (λ (u : View I). u.seen) (at_once vs other l.0 w l.1 there l.2 (sym is)) ∙ l.3 in (
+              id,
+              b,
+              here,
+              by_length (λ long short. long ≡ history) v.seen w.seen (λ _. e) (λ more. let n = ap length e in whole v.seen history bv (omega arith)),
+            ))
+            (λ isnt'. (l.0, l.1, set_else ws other l.0 spent_view isnt' ∙ (set_else vs id l.0 b isnt ∙ l.2), l.3)));
       }

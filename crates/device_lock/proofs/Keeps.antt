@@ -86,26 +86,26 @@ module _ {I T : Type 0} (caller : I → List ℕ) (stands : T → List I → Typ
   pub looks : (slots id t : ℕ) (m : Sat) → m.0.ticket ≡ Some t → m.0.turn ≡ Waiting → m.0.spent ≡ false → Allows (Rule caller stands at_rest) slots id m 1 (λ x. x) (looked caller stands (step slots 1 0 0 none) m)
   looks slots id t m mine idle live s r _ at _ = let x : ℕ = get_or s.words 1 0 in let v : View I = m.0 in let is : x ≡ r.serving = word_is s r 1 in dite (ℕ_discrete x t)
       (λ e. let served : v.ticket ≡ Some r.serving = mine ∙ ap (λ (k : ℕ). Some k) (sym e ∙ is) in let w : View I = with_turn v r.history in
-          let numbers = numbers_stay caller s.views id r.history v r.history v.ticket Holding at (inr refl) r.numbers in
-          let home = at_home stands s.views s.homes id r.next r.serving r.logged r.history v at r.queue r.hold idle served in (
-            w,
-            takes 0 (Some home.0),
-            ap (λ (hs : List (maybe.Option (Option T))). get_elem? hs 0) home.1,
-            record {
-              next = r.next;
-              serving = r.serving;
-              logged = r.logged;
-              history = r.history;
-              words = set-get_or s.words 1 0 ∙ r.words;
-              queue = queue_stays s.views id r.next r.serving v w at refl r.queue;
-              past = past_stays stands s.views id r.logged r.history v w at (inr refl) r.past;
-              hold = subst (λ (hs : List (maybe.Option (Option T))). Hold (set s.views id w) stands hs r.serving r.logged r.history) (sym (ap (λ (hs : List (maybe.Option (Option T))). set hs 0 none) home.1))
-                  (hold_takes stands s.views s.homes id r.next r.serving r.logged r.history v at r.queue r.hold idle served);
-              numbers = numbers;
-              joined = joined_stay at_rest s.views id r.history v w at refl refl r.joined;
-            },
-            ((λ _. (r.history, home.0, refl, home.2, r.past.begun id v at, knows caller (set s.views id w) id r.history w (here_set s.views id v w at) live (prefix_self r.history) numbers)), λ no. absurd (no (mine ∙ ap (λ (k : ℕ). Some k) (sym e)))),
-          ))
+      let numbers = numbers_stay caller s.views id r.history v r.history v.ticket Holding at (inr refl) r.numbers in
+      let home = at_home stands s.views s.homes id r.next r.serving r.logged r.history v at r.queue r.hold idle served in (
+        w,
+        takes 0 (Some home.0),
+        ap (λ (hs : List (maybe.Option (Option T))). get_elem? hs 0) home.1,
+        record {
+          next = r.next;
+          serving = r.serving;
+          logged = r.logged;
+          history = r.history;
+          words = set-get_or s.words 1 0 ∙ r.words;
+          queue = queue_stays s.views id r.next r.serving v w at refl r.queue;
+          past = past_stays stands s.views id r.logged r.history v w at (inr refl) r.past;
+          hold = subst (λ (hs : List (maybe.Option (Option T))). Hold (set s.views id w) stands hs r.serving r.logged r.history) (sym (ap (λ (hs : List (maybe.Option (Option T))). set hs 0 none) home.1))
+              (hold_takes stands s.views s.homes id r.next r.serving r.logged r.history v at r.queue r.hold idle served);
+          numbers = numbers;
+          joined = joined_stay at_rest s.views id r.history v w at refl refl r.joined;
+        },
+        ((λ _. (r.history, home.0, refl, home.2, r.past.begun id v at, knows caller (set s.views id w) id r.history w (here_set s.views id v w at) live (prefix_self r.history) numbers)), λ no. absurd (no (mine ∙ ap (λ (k : ℕ). Some k) (sym e)))),
+      ))
       (λ ne. (
         v,
         keeps,
@@ -138,9 +138,11 @@ module _ {I T : Type 0} (caller : I → List ℕ) (stands : T → List I → Typ
           numbers = numbers;
           joined = joined_log at_rest s.views id r.history v x at r.joined;
         },
-        (λ x' named'. let both : Some x ≡ Some x' = sym named ∙ named' in let same : x ≡ x' = cc (both) in
-            ((λ k. (with_item v (same k), rest (hand k))), is ∙ (r.past.counted ∙ ap length (sym now.1)),
-                knows caller (set s.views id w) id (r.history ++ x ∷ []) w (here_set s.views id v w at) live ([], append-nil (v.seen ++ x ∷ []) ∙ ap (λ (l : List I). l ++ x ∷ []) now.1) numbers)),
+        (λ x' named'. let both : Some x ≡ Some x' = sym named ∙ named' in let same : x ≡ x' = cc (both) in (
+          (λ k. (with_item v (same k), rest (hand k))),
+          is ∙ (r.past.counted ∙ ap length (sym now.1)),
+          knows caller (set s.views id w) id (r.history ++ x ∷ []) w (here_set s.views id v w at) live ([], append-nil (v.seen ++ x ∷ []) ∙ ap (λ (l : List I). l ++ x ∷ []) now.1) numbers,
+        )),
       )
 
   -- the turn is over, by a step after which the value y is at home

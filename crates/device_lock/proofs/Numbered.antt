@@ -49,9 +49,10 @@ module _ {I : Type 0} (caller : I → List ℕ) where
   others_keep : (history : List I) (x : I) (accounts : List (Account I)) → times (caller x) (map (λ a. a.number) accounts) ≡ 0 → Each (λ a. items_of caller a.number history ≡ a.own) accounts
       → Each (λ a. items_of caller a.number (history ++ x ∷ []) ≡ a.own) accounts
   others_keep history x [] none each = tt
-  others_keep history x (a ∷ rest) none each = let t = times_none (caller x) a.number (map (λ a. a.number) rest) none in
-      (items_other caller a.number history x (not_same a.number (caller x) (λ e. let yes : same (caller x) a.number ≡ true = subst (λ c. same (caller x) c ≡ true) (sym e) (same_self (caller x)) in let both : true ≡ false = sym yes ∙ t.0 in cc (both))) ∙ each.0,
-      others_keep history x rest t.1 each.1)
+  others_keep history x (a ∷ rest) none each = let t = times_none (caller x) a.number (map (λ a. a.number) rest) none in (
+    items_other caller a.number history x (not_same a.number (caller x) (λ e. let yes : same (caller x) a.number ≡ true = subst (λ c. same (caller x) c ≡ true) (sym e) (same_self (caller x)) in let both : true ≡ false = sym yes ∙ t.0 in cc (both))) ∙ each.0,
+    others_keep history x rest t.1 each.1,
+  )
 
   has_own : (v : View I) → v.spent ≡ false → times v.number (numbers v) ≡ 1 + times v.number (map (λ a. a.number) v.joined)
   has_own v live = ap (times v.number) (numbers_live v live) ∙ times_here v.number (map (λ a. a.number) v.joined)
@@ -65,16 +66,18 @@ module _ {I : Type 0} (caller : I → List ℕ) where
       → Numbers vs caller history → Numbers (set vs id (with_item v x)) caller (history ++ x ∷ [])
   numbers_log vs id history v x at live mine whole n = let w : View I = with_item v x in let own = has_own v live in let here = part_of (λ u. times v.number (numbers u)) vs id v at in let most = n.one_place v.number in
       let k = (n.kept id v at live).0 in
-      let mine_keeps : Keeps caller w (history ++ x ∷ []) = (items_mine caller v.number history x mine ∙ ap (λ l. l ++ x ∷ []) k.0,
-          others_keep history x v.joined (ap (λ c. times c (map (λ a. a.number) v.joined)) mine ∙ omega arith) k.1) in record {
+      let mine_keeps : Keeps caller w (history ++ x ∷ []) = (
+        items_mine caller v.number history x mine ∙ ap (λ l. l ++ x ∷ []) k.0,
+        others_keep history x v.joined (ap (λ c. times c (map (λ a. a.number) v.joined)) mine ∙ omega arith) k.1,
+      ) in record {
         one_place = λ c. let s = places_same vs id v w c at refl in let m = n.one_place c in omega arith;
         kept = all_set (λ _ u. u.spent ≡ false → Keeps caller u (history ++ x ∷ []) × Keeps caller u u.seen) vs id w
             (λ _. (mine_keeps, subst (λ l. Keeps caller w (l ++ x ∷ [])) (sym whole) mine_keeps))
             (λ j u ne there on. let was = n.kept j u there on in
-                let none : times (caller x) (u.number ∷ map (λ a. a.number) u.joined) ≡ 0 = ap (λ c. times c (u.number ∷ map (λ a. a.number) u.joined)) mine ∙ (ap (times v.number) (sym (numbers_live u on)) ∙ apart vs id j history v u at there ne live n) in
-                let head = times_none (caller x) u.number (map (λ a. a.number) u.joined) none in
-                let differs : same u.number (caller x) ≡ false = not_same u.number (caller x) (λ e. let yes : same (caller x) u.number ≡ true = subst (λ c. same (caller x) c ≡ true) (sym e) (same_self (caller x)) in let both : true ≡ false = sym yes ∙ head.0 in cc (both)) in
-                ((items_other caller u.number history x differs ∙ was.0.0, others_keep history x u.joined head.1 was.0.1), was.1));
+            let none : times (caller x) (u.number ∷ map (λ a. a.number) u.joined) ≡ 0 = ap (λ c. times c (u.number ∷ map (λ a. a.number) u.joined)) mine ∙ (ap (times v.number) (sym (numbers_live u on)) ∙ apart vs id j history v u at there ne live n) in
+            let head = times_none (caller x) u.number (map (λ a. a.number) u.joined) none in
+            let differs : same u.number (caller x) ≡ false = not_same u.number (caller x) (λ e. let yes : same (caller x) u.number ≡ true = subst (λ c. same (caller x) c ≡ true) (sym e) (same_self (caller x)) in let both : true ≡ false = sym yes ∙ head.0 in cc (both)) in
+            ((items_other caller u.number history x differs ∙ was.0.0, others_keep history x u.joined head.1 was.0.1), was.1));
         others = λ c none. let was : places vs c ≡ 0 = sym (places_same vs id v w c at refl) ∙ none in
             items_other caller c history x (not_same c (caller x) (λ e. let is : c ≡ v.number = e ∙ mine in let zero_there : places vs v.number ≡ 0 = ap (places vs) (sym is) ∙ was in omega arith)) ∙ n.others c was;
         fresh = pairs_set (λ u z. u.spent ≡ false → Each (λ c. (m : ℕ) → u.splits ≤ m → ¬ IsPrefix (u.number ++ m ∷ []) c) (numbers z)) vs id w (n.fresh id id v v at at) (λ k z _ there. n.fresh id k v z at there)
@@ -96,9 +99,9 @@ module _ {I : Type 0} (caller : I → List ℕ) where
       let l : View I = split_left v in let r : View I = split_right v in let new : List ℕ = v.number ++ v.splits ∷ [] in let ws : List (View I) = set vs id l ++ r ∷ [] in
       let free = new_number vs id history v at live n in
       let below : (z : View I) → Each (λ c. (m : ℕ) → v.splits ≤ m → ¬ IsPrefix (v.number ++ m ∷ []) c) (numbers z) → Each (λ c. (m : ℕ) → 0 ≤ m → ¬ IsPrefix (new ++ m ∷ []) c) (numbers z) =
-          λ z. each_map (λ c. (m : ℕ) → v.splits ≤ m → ¬ IsPrefix (v.number ++ m ∷ []) c) (λ c. (m : ℕ) → 0 ≤ m → ¬ IsPrefix (new ++ m ∷ []) c) (λ c f m _ p. f v.splits (le_refl v.splits) (prefix_front new c m p)) (numbers z) in
+      λ z. each_map (λ c. (m : ℕ) → v.splits ≤ m → ¬ IsPrefix (v.number ++ m ∷ []) c) (λ c. (m : ℕ) → 0 ≤ m → ¬ IsPrefix (new ++ m ∷ []) c) (λ c f m _ p. f v.splits (le_refl v.splits) (prefix_front new c m p)) (numbers z) in
       let later : (z : View I) → Each (λ c. (m : ℕ) → v.splits ≤ m → ¬ IsPrefix (v.number ++ m ∷ []) c) (numbers z) → Each (λ c. (m : ℕ) → v.splits + 1 ≤ m → ¬ IsPrefix (v.number ++ m ∷ []) c) (numbers z) =
-          λ z. each_map (λ c. (m : ℕ) → v.splits ≤ m → ¬ IsPrefix (v.number ++ m ∷ []) c) (λ c. (m : ℕ) → v.splits + 1 ≤ m → ¬ IsPrefix (v.number ++ m ∷ []) c) (λ c f m le p. f m (omega arith) p) (numbers z) in
+      λ z. each_map (λ c. (m : ℕ) → v.splits ≤ m → ¬ IsPrefix (v.number ++ m ∷ []) c) (λ c. (m : ℕ) → v.splits + 1 ≤ m → ¬ IsPrefix (v.number ++ m ∷ []) c) (λ c f m le p. f m (omega arith) p) (numbers z) in
       let F : View I → View I → Type 0 = λ u z. u.spent ≡ false → Each (λ c. (m : ℕ) → u.splits ≤ m → ¬ IsPrefix (u.number ++ m ∷ []) c) (numbers z) in
       let at_places : (c : List ℕ) → places ws c ≡ places vs c + times c (new ∷ []) = λ c. total_append (λ u. times c (numbers u)) (set vs id l) (r ∷ []) ∙ (let s = places_same vs id v l c at refl in omega arith) in record {
         one_place = λ c. let s = at_places c in let m = n.one_place c in by_bool (λ b. same c new ≡ b → places ws c ≤ 1) (same c new)
@@ -111,12 +114,15 @@ module _ {I : Type 0} (caller : I → List ℕ) where
         fresh = pairs_snoc F (set vs id l) r (λ _. ((λ m _ p. no_longer new m p), tt))
             (all_set (λ _ z. F r z) vs id l (λ _. below v (n.fresh id id v v at at live)) (λ k z _ there _. below z (n.fresh id k v z at there live)))
             (all_set (λ _ u. F u r) vs id l
-                (λ _. ((λ m le p. ⊎_elim (λ (q : IsPrefix (v.number ++ m ∷ []) v.number). no_longer v.number m q) (λ (e : v.number ++ m ∷ [] ≡ new). let is = (snoc_is v.number v.number m v.splits e).1 in omega arith) (prefix_snoc (v.number ++ m ∷ []) v.number v.splits p)), tt))
-                (λ j u ne there on. ((λ m le p. ⊎_elim
-                    (λ (q : IsPrefix (u.number ++ m ∷ []) v.number). (subst (Each (λ c. (m : ℕ) → u.splits ≤ m → ¬ IsPrefix (u.number ++ m ∷ []) c)) (numbers_live v live) (n.fresh j id u v there at on)).0 m le q)
-                    (λ (e : u.number ++ m ∷ [] ≡ new). let is = (snoc_is u.number v.number m v.splits e).0 in let none = apart vs id j history v u at there ne live n in let one = has_own u on in
-                        let none' : times u.number (numbers u) ≡ 0 = ap (λ c. times c (numbers u)) is ∙ none in omega arith)
-                    (prefix_snoc (u.number ++ m ∷ []) v.number v.splits p)), tt)))
+            (λ _. ((λ m le p. ⊎_elim (λ (q : IsPrefix (v.number ++ m ∷ []) v.number). no_longer v.number m q) (λ (e : v.number ++ m ∷ [] ≡ new). let is = (snoc_is v.number v.number m v.splits e).1 in omega arith) (prefix_snoc (v.number ++ m ∷ []) v.number v.splits p)), tt))
+            (λ j u ne there on. (
+              (λ m le p. ⊎_elim
+                  (λ (q : IsPrefix (u.number ++ m ∷ []) v.number). (subst (Each (λ c. (m : ℕ) → u.splits ≤ m → ¬ IsPrefix (u.number ++ m ∷ []) c)) (numbers_live v live) (n.fresh j id u v there at on)).0 m le q)
+                  (λ (e : u.number ++ m ∷ [] ≡ new). let is = (snoc_is u.number v.number m v.splits e).0 in let none = apart vs id j history v u at there ne live n in let one = has_own u on in
+                  let none' : times u.number (numbers u) ≡ 0 = ap (λ c. times c (numbers u)) is ∙ none in omega arith)
+                  (prefix_snoc (u.number ++ m ∷ []) v.number v.splits p)),
+              tt,
+            )))
             (pairs_set F vs id l (λ _. later v (n.fresh id id v v at at live)) (λ k z _ there _. later z (n.fresh id k v z at there live)) (λ j u _ there on. n.fresh j id u v there at on) (λ j k u z _ _ a b. n.fresh j k u z a b));
         at_most_whole = λ e small. let small_set : (j : ℕ) (u : View I) → At (set vs id l) j u → u.share.halvings ≤ e = λ j u there. small j u (at_longer (set vs id l) (r ∷ []) j u there) in
             let fits : v.share.halvings + 1 ≤ e = small_set id l (here_set vs id v l at) in
@@ -139,8 +145,10 @@ module _ {I : Type 0} (caller : I → List ℕ) where
 
   -- what is kept of the beginning that was seen, and of the whole, is kept of what lies between
   raised : (u : View I) (h history : List I) → IsPrefix u.seen h → IsPrefix h history → Keeps caller u u.seen → Keeps caller u history → Keeps caller u h
-  raised u h history p q low high = (items_between caller u.number u.seen h history u.own p q low.0 high.0,
-      each_zip (λ a. items_of caller a.number u.seen ≡ a.own) (λ a. items_of caller a.number history ≡ a.own) (λ a. items_of caller a.number h ≡ a.own) (λ a. items_between caller a.number u.seen h history a.own p q) u.joined low.1 high.1)
+  raised u h history p q low high = (
+    items_between caller u.number u.seen h history u.own p q low.0 high.0,
+    each_zip (λ a. items_of caller a.number u.seen ≡ a.own) (λ a. items_of caller a.number history ≡ a.own) (λ a. items_of caller a.number h ≡ a.own) (λ a. items_between caller a.number u.seen h history a.own p q) u.joined low.1 high.1,
+  )
 
   -- The views after a join.
   pub numbers_join : (vs : List (View I)) (id other : ℕ) (history : List I) (v w : View I) → At vs id v → other ≢ id → At (set vs id (joined_view v w)) other w → v.spent ≡ false → w.spent ≡ false → IsPrefix v.seen history → IsPrefix w.seen history
@@ -151,24 +159,26 @@ module _ {I : Type 0} (caller : I → List ℕ) where
       let F : View I → View I → Type 0 = λ u z. u.spent ≡ false → Each (λ c. (m : ℕ) → u.splits ≤ m → ¬ IsPrefix (u.number ++ m ∷ []) c) (numbers z) in
       let K : View I → Type 0 = λ u. u.spent ≡ false → Keeps caller u history × Keeps caller u u.seen in
       let same_places : (c : List ℕ) → places us c ≡ places vs c = λ c. let f : View I → ℕ = λ u. times c (numbers u) in
-          let one : total f ws + f v ≡ total f vs + f b = total_set f vs id v b at in let two : total f us + f w ≡ total f ws + 0 = total_set f ws other w s there in
-          let sum : f b ≡ f v + f w = ap (times c) (numbers_both v w live live') ∙ total_append (λ m. if same c m then 1 else 0) (numbers v) (numbers w) in omega arith in
+      let one : total f ws + f v ≡ total f vs + f b = total_set f vs id v b at in let two : total f us + f w ≡ total f ws + 0 = total_set f ws other w s there in
+      let sum : f b ≡ f v + f w = ap (times c) (numbers_both v w live live') ∙ total_append (λ m. if same c m then 1 else 0) (numbers v) (numbers w) in omega arith in
       let on_both : (u : View I) → u.spent ≡ false → Each (λ c. (m : ℕ) → u.splits ≤ m → ¬ IsPrefix (u.number ++ m ∷ []) c) (numbers v) → Each (λ c. (m : ℕ) → u.splits ≤ m → ¬ IsPrefix (u.number ++ m ∷ []) c) (numbers w)
-          → Each (λ c. (m : ℕ) → u.splits ≤ m → ¬ IsPrefix (u.number ++ m ∷ []) c) (numbers b) =
-          λ u _ d e. subst (Each (λ c. (m : ℕ) → u.splits ≤ m → ¬ IsPrefix (u.number ++ m ∷ []) c)) (sym (numbers_both v w live live')) (each_append (λ c. (m : ℕ) → u.splits ≤ m → ¬ IsPrefix (u.number ++ m ∷ []) c) (numbers v) (numbers w) d e) in
+      → Each (λ c. (m : ℕ) → u.splits ≤ m → ¬ IsPrefix (u.number ++ m ∷ []) c) (numbers b) =
+      λ u _ d e. subst (Each (λ c. (m : ℕ) → u.splits ≤ m → ¬ IsPrefix (u.number ++ m ∷ []) c)) (sym (numbers_both v w live live')) (each_append (λ c. (m : ℕ) → u.splits ≤ m → ¬ IsPrefix (u.number ++ m ∷ []) c) (numbers v) (numbers w) d e) in
       record {
         one_place = λ c. let p = same_places c in let m = n.one_place c in omega arith;
         kept = all_set (λ _ u. K u) ws other s (λ e. absurd (cc (e)))
             (λ j u _ a. all_set (λ _ u. K u) vs id b
-                (λ _. (both_keep v w history kv.0 kw.0,
-                    by_length (λ long short. Keeps caller b long) v.seen w.seen
-                        (λ less. both_keep v w w.seen (raised v w.seen history (prefix_shorter v.seen w.seen history begun begun' (omega arith)) begun' kv.1 kv.0) kw.1)
-                        (λ more. both_keep v w v.seen kv.1 (raised w v.seen history (prefix_shorter w.seen v.seen history begun' begun more) begun kw.1 kw.0))))
-                (λ j u _ a. n.kept j u a) j u a);
+            (λ _. (
+              both_keep v w history kv.0 kw.0,
+              by_length (λ long short. Keeps caller b long) v.seen w.seen
+                  (λ less. both_keep v w w.seen (raised v w.seen history (prefix_shorter v.seen w.seen history begun begun' (omega arith)) begun' kv.1 kv.0) kw.1)
+                  (λ more. both_keep v w v.seen kv.1 (raised w v.seen history (prefix_shorter w.seen v.seen history begun' begun more) begun kw.1 kw.0)),
+            ))
+            (λ j u _ a. n.kept j u a) j u a);
         others = λ c none. n.others c (sym (same_places c) ∙ none);
         fresh = pairs_set F ws other s (λ e. absurd (cc (e))) (λ k z _ a e. absurd (cc (e))) (λ j u _ a _. tt)
             (λ j k u z _ _ a a'. pairs_set F vs id b (λ _. on_both b live (n.fresh id id v v at at live) (n.fresh id other v w at there' live)) (λ k z _ a _. n.fresh id k v z at a live)
-                (λ j u _ a on. on_both u on (n.fresh j id u v a at on) (n.fresh j other u w a there' on)) (λ j k u z _ _ a a'. n.fresh j k u z a a') j k u z a a');
+            (λ j u _ a on. on_both u on (n.fresh j id u v a at on) (n.fresh j other u w a there' on)) (λ j k u z _ _ a a'. n.fresh j k u z a a') j k u z a a');
         at_most_whole = λ e small. let back : id ≢ other = λ is. ne (sym is) in
             let fits : v.share.halvings + w.share.halvings ≤ e = small id b (set_else ws other id s back ∙ here_set vs id v b at) in
             let small' = all_unset (λ u. u.share.halvings ≤ e) ws other w s there (λ _. omega arith) small in
@@ -186,9 +196,9 @@ module _ {I : Type 0} (caller : I → List ℕ) where
   stray_from f [] none = tt
   stray_from f (x ∷ xs) none = (
     dite (ℕ_discrete (f (caller x)) 0)
-    (λ z. let all : (if same (caller x) (caller x) then x ∷ items_of caller (caller x) xs else items_of caller (caller x) xs) ≡ [] = none (caller x) z in
+        (λ z. let all : (if same (caller x) (caller x) then x ∷ items_of caller (caller x) xs else items_of caller (caller x) xs) ≡ [] = none (caller x) z in
         let first : x ∷ items_of caller (caller x) xs ≡ [] = sym (ap (λ (b : Bool). if b then x ∷ items_of caller (caller x) xs else items_of caller (caller x) xs) (same_self (caller x))) ∙ all in absurd (cc (first)))
-    (λ some_there. omega arith),
+        (λ some_there. omega arith),
     stray_from f xs (λ c z. by_bool (λ b. (if b then x ∷ items_of caller c xs else items_of caller c xs) ≡ [] → items_of caller c xs ≡ []) (same c (caller x)) (λ _ e. absurd (cc (e))) (λ _ e. e) (none c z)),
   )
 

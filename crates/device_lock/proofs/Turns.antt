@@ -25,9 +25,9 @@ module _ {I : Type 0} where
   once_set vs id w apart old j k u z t a b e f =
       ⊎_elim
       (λ (here : (j ≡ id) × (w ≡ u)). ⊎_elim (λ (there : (k ≡ id) × (w ≡ z)). here.0 ∙ sym there.0)
-          (λ (there : (k ≢ id) × At vs k z). absurd (apart t (ap (λ (x : View I). x.ticket) here.1 ∙ e) k z there.0 there.1 f)) (at_set vs id k w z b))
+      (λ (there : (k ≢ id) × At vs k z). absurd (apart t (ap (λ (x : View I). x.ticket) here.1 ∙ e) k z there.0 there.1 f)) (at_set vs id k w z b))
       (λ (here : (j ≢ id) × At vs j u). ⊎_elim (λ (there : (k ≡ id) × (w ≡ z)). absurd (apart t (ap (λ (x : View I). x.ticket) there.1 ∙ f) j u here.0 here.1 e))
-          (λ (there : (k ≢ id) × At vs k z). old j k u z t here.1 there.1 e f) (at_set vs id k w z b))
+      (λ (there : (k ≢ id) × At vs k z). old j k u z t here.1 there.1 e f) (at_set vs id k w z b))
       (at_set vs id j w u a)
 
   -- a seat that has drawn no ticket draws the next one
@@ -64,7 +64,7 @@ module _ {I : Type 0} where
     in_range = λ j u t there e. all_set (λ _ u. (t : ℕ) → u.ticket ≡ Some t → (serving + 1 ≤ t) × (t < next)) vs id w
         (λ t e. absurd (cc (e)))
         (λ j u other there t e. let r = q.in_range j u t there e in let a = r.0 in
-            let ne : t ≢ serving = λ is. other (q.once j id u v serving there at (e ∙ ap (λ (n : ℕ). Some n) is) mine) in (omega arith, r.1)) j u there t e;
+        let ne : t ≢ serving = λ is. other (q.once j id u v serving there at (e ∙ ap (λ (n : ℕ). Some n) is) mine) in (omega arith, r.1)) j u there t e;
     each = λ t from below. some_set (λ (u : View I). u.ticket ≡ Some t) vs id v w at (λ (e : v.ticket ≡ Some t). let is : Some serving ≡ Some t = sym mine ∙ e in let is' : serving ≡ t = cc (is) in absurd (omega arith)) (q.each t (omega arith) below);
     once = once_set vs id w (λ t e k z other there f. cc (e)) q.once;
   }

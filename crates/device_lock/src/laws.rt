@@ -12,5 +12,4 @@ pub fn one_history<T: Kept>()
     ensures given { AllGiven T.caller T.stands T.at_rest }
     ensures numbers { OneNumber T.caller T.stands T.at_rest }
     ensures whole { OnePass T.caller T.stands T.at_rest }
-{
-}
+{}

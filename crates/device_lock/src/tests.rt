@@ -1,6 +1,7 @@
 ghost use Rattle.std.specs.Prelude.{◌≡◌, ◌+◌, ◌%◌, ◌^◌, length, IfOk};
 ghost use Rattle.std.specs.Thread.{IsSync};
 ghost use mathlib.Core.List.{IsPrefix};
+ghost use Rattle.device_lock.specs.Passes.{lock_id, pass_lock, pass_view};
 
 use crate::{Kept, Lock, LockPass};
 use std::alloc::Global;
@@ -34,10 +35,10 @@ impl Kept for Tally {
 
 // Counts one more, and answers its place.
 fn count_one<R: Wait>(rt: &R, lock: &Lock<Tally>, pass: LockPass<Tally>) -> (LockPass<Tally>, u64)
-    requires { pass.seat.table_id ≡ lock.now.table.shared.table_id }
-    ensures lock { result.0.seat.table_id ≡ pass.seat.table_id }
-    ensures own { length result.0.seat.me.0.own ≡ length pass.seat.me.0.own + 1 }
-    ensures seen { IsPrefix pass.seat.me.0.seen result.0.seat.me.0.seen }
+    requires { pass_lock pass ≡ lock_id lock.now }
+    ensures lock { pass_lock result.0 ≡ pass_lock pass }
+    ensures own { length (pass_view result.0).own ≡ length (pass_view pass).own + 1 }
+    ensures seen { IsPrefix (pass_view pass).seen (pass_view result.0).seen }
 {
     let mut held = lock.take(rt, pass);
     let tally = held.value();
@@ -54,8 +55,8 @@ fn count_many<R: Wait>(
     pass: LockPass<Tally>,
     times: u32,
 ) -> (LockPass<Tally>, Option<Vec<u64>>)
-    requires { pass.seat.table_id ≡ lock.now.table.shared.table_id }
-    ensures { result.0.seat.table_id ≡ pass.seat.table_id }
+    requires { pass_lock pass ≡ lock_id lock.now }
+    ensures { pass_lock result.0 ≡ pass_lock pass }
 {
     let mut pass = pass;
     let mut places = Vec::new(alloc);
@@ -84,19 +85,19 @@ fn count_by_two<R: Threads + Wait + Sync>(
     pass: LockPass<Tally>,
     times: u32,
 ) -> (LockPass<Tally>, Option<Vec<u64>>)
-    requires { pass.seat.table_id ≡ lock.now.table.shared.table_id }
-    ensures { result.0.seat.table_id ≡ pass.seat.table_id }
+    requires { pass_lock pass ≡ lock_id lock.now }
+    ensures { pass_lock result.0 ≡ pass_lock pass }
 {
     let (a, b) = lock.split(pass);
     let (a, b) = join(
         rt,
         || -> (LockPass<Tally>, Option<Vec<u64>>)
-            requires { a.seat.table_id ≡ lock.now.table.shared.table_id }
-            ensures { result.0.seat.table_id ≡ a.seat.table_id }
+            requires { pass_lock a ≡ lock_id lock.now }
+            ensures { pass_lock result.0 ≡ pass_lock a }
         { count_many(rt, alloc, lock, a, times) },
         || -> (LockPass<Tally>, Option<Vec<u64>>)
-            requires { b.seat.table_id ≡ lock.now.table.shared.table_id }
-            ensures { result.0.seat.table_id ≡ b.seat.table_id }
+            requires { pass_lock b ≡ lock_id lock.now }
+            ensures { pass_lock result.0 ≡ pass_lock b }
         { count_many(rt, alloc, lock, b, times) },
     );
     (lock.join(a.0, b.0), together(a.1, b.1))
@@ -110,19 +111,19 @@ fn count_by_four<R: Threads + Wait + Sync>(
     pass: LockPass<Tally>,
     times: u32,
 ) -> (LockPass<Tally>, Option<Vec<u64>>)
-    requires { pass.seat.table_id ≡ lock.now.table.shared.table_id }
-    ensures { result.0.seat.table_id ≡ pass.seat.table_id }
+    requires { pass_lock pass ≡ lock_id lock.now }
+    ensures { pass_lock result.0 ≡ pass_lock pass }
 {
     let (a, b) = lock.split(pass);
     let (a, b) = join(
         rt,
         || -> (LockPass<Tally>, Option<Vec<u64>>)
-            requires { IsSync R.row × (a.seat.table_id ≡ lock.now.table.shared.table_id) }
-            ensures { result.0.seat.table_id ≡ a.seat.table_id }
+            requires { IsSync R.row × (pass_lock a ≡ lock_id lock.now) }
+            ensures { pass_lock result.0 ≡ pass_lock a }
         { count_by_two(rt, alloc, lock, a, times) },
         || -> (LockPass<Tally>, Option<Vec<u64>>)
-            requires { IsSync R.row × (b.seat.table_id ≡ lock.now.table.shared.table_id) }
-            ensures { result.0.seat.table_id ≡ b.seat.table_id }
+            requires { IsSync R.row × (pass_lock b ≡ lock_id lock.now) }
+            ensures { pass_lock result.0 ≡ pass_lock b }
         { count_by_two(rt, alloc, lock, b, times) },
     );
     (lock.join(a.0, b.0), together(a.1, b.1))
@@ -130,9 +131,9 @@ fn count_by_four<R: Threads + Wait + Sync>(
 
 // What was counted, in a turn in which nothing is logged.
 fn look<R: Wait>(rt: &R, lock: &Lock<Tally>, pass: LockPass<Tally>) -> (LockPass<Tally>, u64)
-    requires { pass.seat.table_id ≡ lock.now.table.shared.table_id }
-    ensures lock { result.0.seat.table_id ≡ pass.seat.table_id }
-    ensures own { result.0.seat.me.0.own ≡ pass.seat.me.0.own }
+    requires { pass_lock pass ≡ lock_id lock.now }
+    ensures lock { pass_lock result.0 ≡ pass_lock pass }
+    ensures own { (pass_view result.0).own ≡ (pass_view pass).own }
 {
     let mut held = lock.take(rt, pass);
     let count = held.value().count;

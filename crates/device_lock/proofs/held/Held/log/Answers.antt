@@ -1,4 +1,4 @@
-use Rattle.std.proofs.Common.{rules, sym, ◌∙◌, subst, ◌≡◌, ◌++◌, [], ◌∷◌, false}
+use Rattle.std.proofs.Common.{rules, sym, subst, ◌≡◌, ◌++◌, [], ◌∷◌, false}
 use Rattle.device_lock.specs.declared.view.Turn.TheVariants.{Holding}
 use Rattle.device_lock.proofs.Keeps.{logs_item, named}
 use Rattle.device_lock.proofs.held.Held.log.Goals as goal

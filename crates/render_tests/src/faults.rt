@@ -1,0 +1,205 @@
+// Units that aren't accepted, or cover too little.
+use crate::rendering::{IDR, render, second};
+use cb_types::PictureInfo;
+use decoder_render::Outcome;
+use std::test::Fail;
+
+const NO_PICTURE: Outcome = Outcome::Incomplete { macroblocks: 1 };
+
+const FIRST: Outcome = Outcome::Bitstream { slice: 0 };
+
+const SECOND: Outcome = Outcome::Bitstream { slice: 1 };
+
+const THIRD: Outcome = Outcome::Bitstream { slice: 2 };
+
+// Slices of one macroblock each: of an IDR picture at the addresses 0, 1 and 2, and of a P picture at 0.
+const UNIT_0: [u8; 8] = [0, 0, 1, 0x65, 0x88, 0x84, 0xA2, 0x78];
+
+const UNITS_0_0: [u8; 16] = [
+    0, 0, 1, 0x65, 0x88, 0x84, 0xA2, 0x78, 0, 0, 1, 0x65, 0x88, 0x84, 0xA2, 0x78,
+];
+
+const UNITS_0_1: [u8; 16] = [
+    0, 0, 1, 0x65, 0x88, 0x84, 0xA2, 0x78, 0, 0, 1, 0x65, 0x42, 0x21, 0x28, 0x9E,
+];
+
+const UNITS_0_2: [u8; 16] = [
+    0, 0, 1, 0x65, 0x88, 0x84, 0xA2, 0x78, 0, 0, 1, 0x65, 0x62, 0x21, 0x28, 0x9E,
+];
+
+const UNITS_0_1_0: [u8; 24] = [
+    0, 0, 1, 0x65, 0x88, 0x84, 0xA2, 0x78, 0, 0, 1, 0x65, 0x42, 0x21, 0x28, 0x9E, 0, 0, 1, 0x65,
+    0x88, 0x84, 0xA2, 0x78,
+];
+
+const UNIT_P: [u8; 7] = [0, 0, 1, 0x41, 0x9A, 0x22, 0x94];
+
+// A unit behind it that ends after its first byte.
+const UNITS_P_CUT: [u8; 11] = [0, 0, 1, 0x41, 0x9A, 0x22, 0x94, 0, 0, 1, 0x41];
+
+#[test]
+fn faulty_units(rt: HostRuntime) -> Result<(), Fail> {
+    let lost = second(false);
+    let next = second(true);
+    let later = PictureInfo {
+        frame_num: 2,
+        ..next
+    };
+    let unmarked = PictureInfo {
+        is_reference: false,
+        ..IDR
+    };
+    let rows: [(&str, &PictureInfo, u32, &[u8], u32, Outcome); 24] = [
+        ("no bytes", &IDR, 1, &[], 0, NO_PICTURE),
+        ("no start code", &IDR, 1, &[0x41], 0, NO_PICTURE),
+        ("no unit", &IDR, 1, &[0, 0, 1], 0, NO_PICTURE),
+        ("a gap", &IDR, 3, &UNITS_0_2, 2, SECOND),
+        ("no end", &IDR, 3, &UNITS_0_1, 2, NO_PICTURE),
+        ("twice the first", &IDR, 3, &UNITS_0_0, 2, SECOND),
+        ("one too many", &IDR, 1, &UNITS_0_0, 2, SECOND),
+        ("the first again", &IDR, 3, &UNITS_0_1_0, 3, THIRD),
+        (
+            "no first",
+            &IDR,
+            2,
+            &[0, 0, 1, 0x65, 0x42, 0x21, 0x28, 0x9E],
+            1,
+            FIRST,
+        ),
+        ("cut", &IDR, 1, &[0, 0, 1, 0x65, 0x88, 0x84, 0xA2], 1, FIRST),
+        (
+            "a broken place behind the unit",
+            &IDR,
+            1,
+            &[0, 0, 1, 0x65, 0x88, 0x84, 0xA2, 0x78, 0, 0, 0, 2],
+            1,
+            FIRST,
+        ),
+        (
+            "a broken place behind two units",
+            &IDR,
+            2,
+            &[
+                0, 0, 1, 0x65, 0x88, 0x84, 0xA2, 0x78, 0, 0, 1, 0x65, 0x42, 0x21, 0x28, 0x9E, 0, 0,
+                0, 2,
+            ],
+            2,
+            SECOND,
+        ),
+        (
+            "a forbidden byte",
+            &IDR,
+            1,
+            &[0, 0, 1, 0x65, 0x88, 0x84, 0xA2, 0x78, 0, 0, 2],
+            1,
+            FIRST,
+        ),
+        (
+            "forbidden_zero_bit",
+            &IDR,
+            1,
+            &[0, 0, 1, 0xE5, 0x88, 0x84, 0xA2, 0x78],
+            1,
+            FIRST,
+        ),
+        (
+            "no slice",
+            &IDR,
+            1,
+            &[0, 0, 1, 0x66, 0x88, 0x84, 0xA2, 0x78],
+            1,
+            FIRST,
+        ),
+        (
+            "unit types 5 and 1",
+            &IDR,
+            2,
+            &[
+                0, 0, 1, 0x65, 0x88, 0x84, 0xA2, 0x78, 0, 0, 1, 0x61, 0x42, 0x20, 0xA2, 0x78,
+            ],
+            2,
+            SECOND,
+        ),
+        (
+            "picture sets 0 and 1",
+            &IDR,
+            2,
+            &[
+                0, 0, 1, 0x65, 0x88, 0x84, 0xA2, 0x78, 0, 0, 1, 0x65, 0x42, 0x10, 0x4A, 0x27, 0x80,
+            ],
+            2,
+            SECOND,
+        ),
+        ("an IDR picture's frame_num", &next, 1, &UNIT_0, 1, FIRST),
+        ("a P picture's frame_num", &later, 1, &UNIT_P, 1, FIRST),
+        ("a reference", &unmarked, 1, &UNIT_0, 1, FIRST),
+        (
+            "no reference",
+            &IDR,
+            1,
+            &[0, 0, 1, 0x01, 0x88, 0x85, 0x13, 0xC0],
+            1,
+            FIRST,
+        ),
+        ("a lost reference", &lost, 1, &UNIT_P, 1, FIRST),
+        (
+            "a lost reference before a cut unit",
+            &lost,
+            2,
+            &UNITS_P_CUT,
+            2,
+            FIRST,
+        ),
+        ("a cut unit", &next, 2, &UNITS_P_CUT, 2, SECOND),
+    ];
+    for (name, info, width, bytes, units, outcome) in rows {
+        let rendered = render(&rt, rt.alloc(), info, width, bytes)?;
+        assert_eq!(rt; rendered.outcome, outcome, "{name}");
+        assert_eq!(rt; rendered.units, units, "{name}");
+    }
+    Ok(())
+}
+
+// Whether this may come of a picture of two units with a bit of one byte turned over. In a start code it leaves no
+// unit, or makes one unit of two; else the two units stay apart, and an accepted second one ends the picture.
+fn is_plausible(byte: usize, units: u32, outcome: Outcome) -> bool {
+    match (byte, units, outcome) {
+        (0..=2, 0, Outcome::Incomplete { macroblocks: 2 }) => true,
+        (3..=7, 2, Outcome::Ok | Outcome::Bitstream { .. }) => true,
+        (8..=10, 1, Outcome::Bitstream { slice: 0 }) => true,
+        (11.., 2, Outcome::Ok | Outcome::Bitstream { slice: 1 }) => true,
+        _ => false,
+    }
+}
+
+#[test]
+fn each_bit_turned_over(rt: HostRuntime) -> Result<(), Fail> {
+    for place in 0..128usize {
+        let byte = place / 8;
+        let mut bytes = UNITS_0_1;
+        bytes[byte] ^= 128 >> (place % 8);
+        let rendered = render(&rt, rt.alloc(), &IDR, 2, &bytes)?;
+        let (units, outcome) = (rendered.units, rendered.outcome);
+        assert!(rt;
+            is_plausible(byte, units, outcome),
+            "bit {place}: {units} and {outcome:?}"
+        );
+    }
+    // Any nal_ref_idc but 0, and both flags of an IDR picture's marking.
+    for (byte, bit) in [
+        (3usize, 0x40u8),
+        (3, 0x20),
+        (5, 0x02),
+        (5, 0x01),
+        (11, 0x40),
+        (11, 0x20),
+        (14, 0x80),
+        (14, 0x40),
+    ] {
+        let mut bytes = UNITS_0_1;
+        bytes[byte] ^= bit;
+        let rendered = render(&rt, rt.alloc(), &IDR, 2, &bytes)?;
+        assert_eq!(rt; rendered.outcome, Outcome::Ok, "bit {bit} of byte {byte}");
+    }
+    Ok(())
+}

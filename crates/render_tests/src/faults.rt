@@ -1,6 +1,5 @@
 // Units that aren't accepted, or cover too little.
-use crate::rendering::{IDR, render, second};
-use cb_types::PictureInfo;
+use crate::rendering::{Kind, render};
 use decoder_render::Outcome;
 use std::test::Fail;
 
@@ -37,125 +36,133 @@ const UNIT_P: [u8; 7] = [0, 0, 1, 0x41, 0x9A, 0x22, 0x94];
 // A unit behind it that ends after its first byte.
 const UNITS_P_CUT: [u8; 11] = [0, 0, 1, 0x41, 0x9A, 0x22, 0x94, 0, 0, 1, 0x41];
 
+type Row = (&'static str, Kind, u32, &'static [u8], u32, Outcome);
+
+// The name of a case, the picture's kind and width, its bytes, its number of units, and its outcome.
+static ROWS: [Row; 24] = [
+    ("no bytes", Kind::Idr, 1, &[], 0, NO_PICTURE),
+    ("no start code", Kind::Idr, 1, &[0x41], 0, NO_PICTURE),
+    ("no unit", Kind::Idr, 1, &[0, 0, 1], 0, NO_PICTURE),
+    ("a gap", Kind::Idr, 3, &UNITS_0_2, 2, SECOND),
+    ("no end", Kind::Idr, 3, &UNITS_0_1, 2, NO_PICTURE),
+    ("twice the first", Kind::Idr, 3, &UNITS_0_0, 2, SECOND),
+    ("one too many", Kind::Idr, 1, &UNITS_0_0, 2, SECOND),
+    ("the first again", Kind::Idr, 3, &UNITS_0_1_0, 3, THIRD),
+    (
+        "no first",
+        Kind::Idr,
+        2,
+        &[0, 0, 1, 0x65, 0x42, 0x21, 0x28, 0x9E],
+        1,
+        FIRST,
+    ),
+    (
+        "cut",
+        Kind::Idr,
+        1,
+        &[0, 0, 1, 0x65, 0x88, 0x84, 0xA2],
+        1,
+        FIRST,
+    ),
+    (
+        "a broken place behind the unit",
+        Kind::Idr,
+        1,
+        &[0, 0, 1, 0x65, 0x88, 0x84, 0xA2, 0x78, 0, 0, 0, 2],
+        1,
+        FIRST,
+    ),
+    (
+        "a broken place behind two units",
+        Kind::Idr,
+        2,
+        &[
+            0, 0, 1, 0x65, 0x88, 0x84, 0xA2, 0x78, 0, 0, 1, 0x65, 0x42, 0x21, 0x28, 0x9E, 0, 0, 0,
+            2,
+        ],
+        2,
+        SECOND,
+    ),
+    (
+        "a forbidden byte",
+        Kind::Idr,
+        1,
+        &[0, 0, 1, 0x65, 0x88, 0x84, 0xA2, 0x78, 0, 0, 2],
+        1,
+        FIRST,
+    ),
+    (
+        "forbidden_zero_bit",
+        Kind::Idr,
+        1,
+        &[0, 0, 1, 0xE5, 0x88, 0x84, 0xA2, 0x78],
+        1,
+        FIRST,
+    ),
+    (
+        "no slice",
+        Kind::Idr,
+        1,
+        &[0, 0, 1, 0x66, 0x88, 0x84, 0xA2, 0x78],
+        1,
+        FIRST,
+    ),
+    (
+        "unit types 5 and 1",
+        Kind::Idr,
+        2,
+        &[
+            0, 0, 1, 0x65, 0x88, 0x84, 0xA2, 0x78, 0, 0, 1, 0x61, 0x42, 0x20, 0xA2, 0x78,
+        ],
+        2,
+        SECOND,
+    ),
+    (
+        "picture sets 0 and 1",
+        Kind::Idr,
+        2,
+        &[
+            0, 0, 1, 0x65, 0x88, 0x84, 0xA2, 0x78, 0, 0, 1, 0x65, 0x42, 0x10, 0x4A, 0x27, 0x80,
+        ],
+        2,
+        SECOND,
+    ),
+    (
+        "an IDR picture's frame_num",
+        Kind::Next,
+        1,
+        &UNIT_0,
+        1,
+        FIRST,
+    ),
+    ("a P picture's frame_num", Kind::Later, 1, &UNIT_P, 1, FIRST),
+    ("a reference", Kind::Unmarked, 1, &UNIT_0, 1, FIRST),
+    (
+        "no reference",
+        Kind::Idr,
+        1,
+        &[0, 0, 1, 0x01, 0x88, 0x85, 0x13, 0xC0],
+        1,
+        FIRST,
+    ),
+    ("a lost reference", Kind::Lost, 1, &UNIT_P, 1, FIRST),
+    (
+        "a lost reference before a cut unit",
+        Kind::Lost,
+        2,
+        &UNITS_P_CUT,
+        2,
+        FIRST,
+    ),
+    ("a cut unit", Kind::Next, 2, &UNITS_P_CUT, 2, SECOND),
+];
+
 #[test]
 fn faulty_units(rt: HostRuntime) -> Result<(), Fail> {
-    let lost = second(false);
-    let next = second(true);
-    let later = PictureInfo {
-        frame_num: 2,
-        ..next
-    };
-    let unmarked = PictureInfo {
-        is_reference: false,
-        ..IDR
-    };
-    let rows: [(&str, &PictureInfo, u32, &[u8], u32, Outcome); 24] = [
-        ("no bytes", &IDR, 1, &[], 0, NO_PICTURE),
-        ("no start code", &IDR, 1, &[0x41], 0, NO_PICTURE),
-        ("no unit", &IDR, 1, &[0, 0, 1], 0, NO_PICTURE),
-        ("a gap", &IDR, 3, &UNITS_0_2, 2, SECOND),
-        ("no end", &IDR, 3, &UNITS_0_1, 2, NO_PICTURE),
-        ("twice the first", &IDR, 3, &UNITS_0_0, 2, SECOND),
-        ("one too many", &IDR, 1, &UNITS_0_0, 2, SECOND),
-        ("the first again", &IDR, 3, &UNITS_0_1_0, 3, THIRD),
-        (
-            "no first",
-            &IDR,
-            2,
-            &[0, 0, 1, 0x65, 0x42, 0x21, 0x28, 0x9E],
-            1,
-            FIRST,
-        ),
-        ("cut", &IDR, 1, &[0, 0, 1, 0x65, 0x88, 0x84, 0xA2], 1, FIRST),
-        (
-            "a broken place behind the unit",
-            &IDR,
-            1,
-            &[0, 0, 1, 0x65, 0x88, 0x84, 0xA2, 0x78, 0, 0, 0, 2],
-            1,
-            FIRST,
-        ),
-        (
-            "a broken place behind two units",
-            &IDR,
-            2,
-            &[
-                0, 0, 1, 0x65, 0x88, 0x84, 0xA2, 0x78, 0, 0, 1, 0x65, 0x42, 0x21, 0x28, 0x9E, 0, 0,
-                0, 2,
-            ],
-            2,
-            SECOND,
-        ),
-        (
-            "a forbidden byte",
-            &IDR,
-            1,
-            &[0, 0, 1, 0x65, 0x88, 0x84, 0xA2, 0x78, 0, 0, 2],
-            1,
-            FIRST,
-        ),
-        (
-            "forbidden_zero_bit",
-            &IDR,
-            1,
-            &[0, 0, 1, 0xE5, 0x88, 0x84, 0xA2, 0x78],
-            1,
-            FIRST,
-        ),
-        (
-            "no slice",
-            &IDR,
-            1,
-            &[0, 0, 1, 0x66, 0x88, 0x84, 0xA2, 0x78],
-            1,
-            FIRST,
-        ),
-        (
-            "unit types 5 and 1",
-            &IDR,
-            2,
-            &[
-                0, 0, 1, 0x65, 0x88, 0x84, 0xA2, 0x78, 0, 0, 1, 0x61, 0x42, 0x20, 0xA2, 0x78,
-            ],
-            2,
-            SECOND,
-        ),
-        (
-            "picture sets 0 and 1",
-            &IDR,
-            2,
-            &[
-                0, 0, 1, 0x65, 0x88, 0x84, 0xA2, 0x78, 0, 0, 1, 0x65, 0x42, 0x10, 0x4A, 0x27, 0x80,
-            ],
-            2,
-            SECOND,
-        ),
-        ("an IDR picture's frame_num", &next, 1, &UNIT_0, 1, FIRST),
-        ("a P picture's frame_num", &later, 1, &UNIT_P, 1, FIRST),
-        ("a reference", &unmarked, 1, &UNIT_0, 1, FIRST),
-        (
-            "no reference",
-            &IDR,
-            1,
-            &[0, 0, 1, 0x01, 0x88, 0x85, 0x13, 0xC0],
-            1,
-            FIRST,
-        ),
-        ("a lost reference", &lost, 1, &UNIT_P, 1, FIRST),
-        (
-            "a lost reference before a cut unit",
-            &lost,
-            2,
-            &UNITS_P_CUT,
-            2,
-            FIRST,
-        ),
-        ("a cut unit", &next, 2, &UNITS_P_CUT, 2, SECOND),
-    ];
-    for (name, info, width, bytes, units, outcome) in rows {
-        let rendered = render(&rt, rt.alloc(), info, width, bytes)?;
-        assert_eq!(rt; rendered.outcome, outcome, "{name}");
-        assert_eq!(rt; rendered.units, units, "{name}");
+    for (name, kind, width, bytes, units, outcome) in &ROWS {
+        let rendered = render(&rt, rt.alloc(), *kind, *width, bytes)?;
+        assert_eq!(rt; rendered.outcome, *outcome, "{name}");
+        assert_eq!(rt; rendered.units, *units, "{name}");
     }
     Ok(())
 }
@@ -178,7 +185,7 @@ fn each_bit_turned_over(rt: HostRuntime) -> Result<(), Fail> {
         let byte = place / 8;
         let mut bytes = UNITS_0_1;
         bytes[byte] ^= 128 >> (place % 8);
-        let rendered = render(&rt, rt.alloc(), &IDR, 2, &bytes)?;
+        let rendered = render(&rt, rt.alloc(), Kind::Idr, 2, &bytes)?;
         let (units, outcome) = (rendered.units, rendered.outcome);
         assert!(rt;
             is_plausible(byte, units, outcome),
@@ -198,7 +205,7 @@ fn each_bit_turned_over(rt: HostRuntime) -> Result<(), Fail> {
     ] {
         let mut bytes = UNITS_0_1;
         bytes[byte] ^= bit;
-        let rendered = render(&rt, rt.alloc(), &IDR, 2, &bytes)?;
+        let rendered = render(&rt, rt.alloc(), Kind::Idr, 2, &bytes)?;
         assert_eq!(rt; rendered.outcome, Outcome::Ok, "bit {bit} of byte {byte}");
     }
     Ok(())

@@ -1,5 +1,6 @@
 // A submission's way to its outcome, and what it is decoded with.
-ghost use Rattle.std.specs.Prelude.{IsTrue};
+ghost use Rattle.std.specs.Prelude.{◌≡◌, ◌≤◌, IsTrue, IsSome, false};
+ghost use Rattle.cb_types.specs.References.{is_unused};
 ghost use Rattle.cb_types.specs.AcceptedInfo.{IsAcceptedBySome};
 ghost use Rattle.recon.specs.References.{AreHeld, pictures_of};
 
@@ -13,9 +14,9 @@ use std::process::Abort;
 use std::sync::Arc;
 use vd_plane::{Picture, Plane};
 
-/// An IDR picture of the sets `67 42 C0 0A DA 71` and `68 CE 3C 80`: MaxFrameNum is 16, the picture order
-/// count has type 2, and slices say how they are filtered.
-pub const IDR: PictureInfo = PictureInfo {
+// An IDR picture of the sets `67 42 C0 0A DA 71` and `68 CE 3C 80`: MaxFrameNum is 16, the picture order
+// count has type 2, and slices say how they are filtered.
+const IDR: PictureInfo = PictureInfo {
     slice_count: 1,
     field_order_cnt: [0; 2],
     is_reference: true,
@@ -48,23 +49,55 @@ pub const IDR: PictureInfo = PictureInfo {
     references: [Reference::UNUSED; 16],
 };
 
-/// The next picture, with the frame before it as its reference, or without one.
-pub fn second(has_reference: bool) -> PictureInfo {
-    let mut info = PictureInfo {
-        frame_num: 1,
-        field_order_cnt: [2; 2],
-        ..IDR
-    };
-    if has_reference {
-        info.references[0] = Reference {
-            surface: 7,
-            top_is_reference: true,
-            bottom_is_reference: true,
-            ..Reference::UNUSED
-        };
+/// How the info of a picture differs from that of an IDR picture with these sets.
+#[derive(Clone, Copy)]
+pub enum Kind {
+    /// Not at all.
+    Idr,
+    /// It isn't a reference.
+    Unmarked,
+    /// It is the next picture, and the frame before it its reference.
+    Next,
+    /// So it is, and its prediction is weighted.
+    Weighted,
+    /// The next picture, without a reference.
+    Lost,
+    /// The picture after the next.
+    Later,
+}
+
+/// The info of a picture.
+pub fn info_of(kind: Kind) -> PictureInfo {
+    let mut info = IDR;
+    match kind {
+        Kind::Idr => {}
+        Kind::Unmarked => info.is_reference = false,
+        Kind::Next => {
+            info.frame_num = 1;
+            info.references[0] = BEFORE;
+        }
+        Kind::Weighted => {
+            info.frame_num = 1;
+            info.weighted_pred_flag = true;
+            info.references[0] = BEFORE;
+        }
+        Kind::Lost => info.frame_num = 1,
+        Kind::Later => {
+            info.frame_num = 2;
+            info.references[0] = BEFORE;
+        }
     }
     info
 }
+
+const BEFORE: Reference = Reference {
+    surface: 7,
+    is_long_term: false,
+    top_is_reference: true,
+    bottom_is_reference: true,
+    field_order_cnt: [0; 2],
+    frame_idx: 0,
+};
 
 /// What became of a submission.
 #[derive(Drop)]
@@ -79,17 +112,17 @@ pub struct Rendered {
 pub fn render(
     rt: &impl Abort,
     alloc: Global,
-    info: &PictureInfo,
+    kind: Kind,
     width: u32,
     bytes: &[u8],
 ) -> Result<Rendered, AllocError> {
     assert!(rt; width >= 1 && width <= 4 && bytes.len() < 100);
-    let size = SizeMbs { width, height: 1 };
-    let refs = flat_refs(alloc, size)?;
-    assert!(rt; is_accepted(info) && are_held(info, &refs));
-    let mut prepared = Prepared::new(alloc, size, bytes)?;
+    let info = info_of(kind);
+    let refs = flat_refs(alloc, width)?;
+    assert!(rt; is_accepted(&info) && are_held(&info, &refs));
+    let mut prepared = Prepared::new(alloc, SizeMbs { width, height: 1 }, bytes)?;
     let units = prepared.units();
-    let outcome = prepared.decode(info, &refs);
+    let outcome = prepared.decode(&info, &refs);
     Ok(Rendered {
         units,
         outcome,
@@ -109,20 +142,25 @@ fn is_accepted(info: &PictureInfo) -> bool
 fn are_held(info: &PictureInfo, refs: &Refs) -> bool
     ensures { IsTrue result → AreHeld info.now (pictures_of refs.now) }
 {
-    for place in 0..16usize {
-        if !info.references[place].is_unused() && refs.pictures[place].is_none() {
+    for place in 0..16 {
+        if !is_held(&info.references[place], &refs.pictures[place]) {
             return false;
         }
     }
     true
 }
 
-fn flat_refs(alloc: Global, size: SizeMbs) -> Result<Refs, AllocError> {
-    let mut picture = Picture::of_size(alloc, size)?;
-    picture.y.samples_mut().fill(128);
-    picture.cb.samples_mut().fill(128);
-    picture.cr.samples_mut().fill(128);
-    let flat = Arc::new(alloc, picture)?;
+fn is_held(entry: &Reference, picture: &Option<Arc<Picture>>) -> bool
+    ensures { IsTrue result → is_unused entry.now ≡ false → IsSome picture.now }
+{
+    entry.is_unused() || picture.is_some()
+}
+
+fn flat_refs(alloc: Global, width: u32) -> Result<Refs, AllocError>
+    requires some { 1 ≤ width }
+    requires few { width ≤ 4 }
+{
+    let flat = Arc::new(alloc, flat(alloc, width)?)?;
     Ok(Refs {
         pictures: [
             Some(flat),
@@ -142,6 +180,17 @@ fn flat_refs(alloc: Global, size: SizeMbs) -> Result<Refs, AllocError> {
             None,
             None,
         ],
+    })
+}
+
+fn flat(alloc: Global, width: u32) -> Result<Picture, AllocError>
+    requires some { 1 ≤ width }
+    requires few { width ≤ 4 }
+{
+    Ok(Picture {
+        y: Plane::new(alloc, 16 * width, 16, 128)?,
+        cb: Plane::new(alloc, 8 * width, 8, 128)?,
+        cr: Plane::new(alloc, 8 * width, 8, 128)?,
     })
 }
 

@@ -11,7 +11,7 @@ const SECOND: Outcome = Outcome::Bitstream { slice: 1 };
 
 const THIRD: Outcome = Outcome::Bitstream { slice: 2 };
 
-// Slices of one macroblock each: of an IDR picture at the addresses 0, 1 and 2, and of a P picture at 0.
+// Slices of one macroblock each: those of an IDR picture at the addresses in their names, and one of a P picture at 0.
 const UNIT_0: [u8; 8] = [0, 0, 1, 0x65, 0x88, 0x84, 0xA2, 0x78];
 
 const UNITS_0_0: [u8; 16] = [

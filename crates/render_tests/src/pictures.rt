@@ -1,4 +1,4 @@
-// Worked pictures of one, two and three macroblocks.
+// Worked pictures of one macroblock and of two.
 use crate::rendering::{Kind, is_flat, render};
 use decoder_render::Outcome;
 use std::test::Fail;

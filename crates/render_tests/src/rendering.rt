@@ -66,8 +66,8 @@ pub enum Kind {
     Later,
 }
 
-/// The info of a picture.
-pub fn info_of(kind: Kind) -> PictureInfo {
+// The info of a picture.
+fn info_of(kind: Kind) -> PictureInfo {
     let mut info = IDR;
     match kind {
         Kind::Idr => {}

@@ -1,4 +1,4 @@
-use Rattle.std.proofs.Common.{◌≡◌, ◌<◌, IsSome, None, length, subst, rules, arith}
+use Rattle.std.proofs.Common.{◌≡◌, IsSome, None, length, subst, rules, arith}
 use Rattle.std.proofs.lemmas.List.{get_or_default}
 use Rattle.render_tests.proofs.HeldLemmas.{held_at, held_behind, none_before}
 use Rattle.render_tests.proofs.rendering.are_held.Goals as goal

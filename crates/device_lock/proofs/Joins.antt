@@ -1,5 +1,5 @@
 -- What the rule says after a split and after a join, and of the lists that were joined.
-use Rattle.std.proofs.Common.{◌≡◌, ℕ, ◌<◌, ◌≤◌, ◌≢◌, inl, inr, List, [], ◌∷◌, ◌++◌, length, set, Option, Some, None, sym, refl, ap, ◌∙◌, subst, ⊎_elim, arith, append_assoc, length-append}
+use Rattle.std.proofs.Common.{◌≡◌, ℕ, ◌<◌, ◌≤◌, ◌≢◌, inl, inr, false, List, [], ◌∷◌, ◌++◌, length, set, Option, Some, None, sym, refl, ap, ◌∙◌, subst, ⊎_elim, arith, append_assoc, length-append}
 use mathlib.Core.Logic.{dite}
 use mathlib.Core.List.{IsPrefix, append-nil}
 use mathlib.Core.Option.{none, some}
@@ -10,7 +10,7 @@ use Rattle.device_lock.specs.declared.view.Account.{Account}
 use Rattle.device_lock.specs.declared.view.View.{View}
 use Rattle.device_lock.specs.declared.view.Turn.TheVariants.{Waiting, Holding, HasLogged}
 use Rattle.device_lock.specs.Lists.{At, Each}
-use Rattle.device_lock.specs.Views.{IsInTurn, with_item, split_left, split_right, joined_view, spent_view}
+use Rattle.device_lock.specs.Views.{IsInTurn, with_item, split_left, split_right, joined_view, spent_view, shown_view, met_view}
 use Rattle.device_lock.specs.Numbers.{Joined}
 use Rattle.device_lock.specs.Rule.{Queue, Past, Hold}
 use Rattle.device_lock.proofs.Places.{all_set, all_snoc, here_set, some_snoc, at_once}
@@ -48,6 +48,18 @@ module _ {I : Type 0} (at_rest : List I → Type 0) where
         (λ j u _ a. all_set (λ _ u. IsPrefix u.met history) vs id b (by_length (λ long short. IsPrefix short history) v.seen w.seen (λ _. begun) (λ _. begun')) (λ j u _ a. r.met j u a) j u a);
   }
 
+  pub joined_show : (vs : List (View I)) (history : List I) (v : View I) → Joined vs at_rest history → Joined (vs ++ shown_view v ∷ []) at_rest history
+  joined_show vs history v r = record {
+    rests = all_snoc (λ _ u. Each (λ a. at_rest a.own) u.joined) vs (shown_view v) (λ _. tt) r.rests;
+    met = all_snoc (λ _ u. IsPrefix u.met history) vs (shown_view v) (λ _. (history, refl)) r.met;
+  }
+
+  pub joined_meet : (vs : List (View I)) (id : ℕ) (history : List I) (v w : View I) → At vs id v → IsPrefix w.seen history → Joined vs at_rest history → Joined (set vs id (met_view v w)) at_rest history
+  joined_meet vs id history v w at begun r = record {
+    rests = all_set (λ _ u. Each (λ a. at_rest a.own) u.joined) vs id (met_view v w) (r.rests id v at) (λ j u _ a. r.rests j u a);
+    met = all_set (λ _ u. IsPrefix u.met history) vs id (met_view v w) begun (λ j u _ a. r.met j u a);
+  }
+
 module _ {I : Type 0} where
   -- a pass without a ticket comes
   pub queue_more : (vs : List (View I)) (next serving : ℕ) (u : View I) → u.ticket ≡ None → Queue vs next serving → Queue (vs ++ u ∷ []) next serving
@@ -66,7 +78,7 @@ module _ {I T : Type 0} (stands : T → List I → Type 0) where
     counted = p.counted;
     legal = p.legal;
     begun = all_snoc (λ _ z. IsPrefix z.seen history) vs u (λ _. begun) p.begun;
-    longest = some_snoc (λ (z : View I). z.seen ≡ history) vs u p.longest;
+    longest = some_snoc (λ (z : View I). (z.spent ≡ false) × (z.seen ≡ history)) vs u p.longest;
   }
 
   pub hold_more : (vs : List (View I)) (homes : List (maybe.Option (Option T))) (serving logged : ℕ) (history : List I) (u : View I) → u.turn ≡ Waiting → Hold vs stands homes serving logged history
@@ -86,9 +98,9 @@ module _ {I T : Type 0} (stands : T → List I → Type 0) where
   whole xs history p le = let a = length-append xs p.0 in let b = ap length p.1 in
       let nothing : p.0 ≡ [] = none_left p.0 (omega arith) in sym (append-nil xs) ∙ (ap (λ l. xs ++ l) (sym nothing) ∙ p.1)
 
-  pub past_join : (vs : List (View I)) (id other logged : ℕ) (history : List I) (v w : View I) → At vs id v → other ≢ id → At vs other w
+  pub past_join : (vs : List (View I)) (id other logged : ℕ) (history : List I) (v w : View I) → At vs id v → v.spent ≡ false → other ≢ id → At vs other w
       → Past vs stands logged history → Past (set (set vs id (joined_view v w)) other spent_view) stands logged history
-  past_join vs id other logged history v w at ne there p = let b : View I = joined_view v w in let ws : List (View I) = set vs id b in let us : List (View I) = set ws other spent_view in
+  past_join vs id other logged history v w at live ne there p = let b : View I = joined_view v w in let ws : List (View I) = set vs id b in let us : List (View I) = set ws other spent_view in
       let bv = p.begun id v at in let bw = p.begun other w there in let back : id ≢ other = λ is. ne (sym is) in let there' : At ws other w = set_else vs id other b ne ∙ there in
       let here : At us id b = set_else ws other id spent_view back ∙ here_set vs id v b at in record {
         counted = p.counted;
@@ -96,18 +108,18 @@ module _ {I T : Type 0} (stands : T → List I → Type 0) where
         begun = all_set (λ _ u. IsPrefix u.seen history) ws other spent_view (history, refl)
             (λ j u _ a. all_set (λ _ u. IsPrefix u.seen history) vs id b (by_length (λ long short. IsPrefix long history) v.seen w.seen (λ _. bw) (λ _. bv)) (λ j u _ a. p.begun j u a) j u a);
         longest = let l = p.longest in dite (ℕ_discrete l.0 id)
-            (λ is. let e : v.seen ≡ history = ap (λ (u : View I). u.seen) (at_once vs id l.0 v l.1 at l.2 (sym is)) ∙ l.3 in (
+            (λ is. let e : v.seen ≡ history = ap (λ (u : View I). u.seen) (at_once vs id l.0 v l.1 at l.2 (sym is)) ∙ l.3.1 in (
               id,
               b,
               here,
-              by_length (λ long short. long ≡ history) v.seen w.seen (λ less. let n = ap length e in let m = length-append w.seen bw.0 in let o = ap length bw.1 in absurd (omega arith)) (λ _. e),
+              (live, by_length (λ long short. long ≡ history) v.seen w.seen (λ less. let n = ap length e in let m = length-append w.seen bw.0 in let o = ap length bw.1 in absurd (omega arith)) (λ _. e)),
             ))
             (λ isnt. dite (ℕ_discrete l.0 other)
-            (λ is. let e : w.seen ≡ history = ap (λ (u : View I). u.seen) (at_once vs other l.0 w l.1 there l.2 (sym is)) ∙ l.3 in (
+            (λ is. let e : w.seen ≡ history = ap (λ (u : View I). u.seen) (at_once vs other l.0 w l.1 there l.2 (sym is)) ∙ l.3.1 in (
               id,
               b,
               here,
-              by_length (λ long short. long ≡ history) v.seen w.seen (λ _. e) (λ more. let n = ap length e in whole v.seen history bv (omega arith)),
+              (live, by_length (λ long short. long ≡ history) v.seen w.seen (λ _. e) (λ more. let n = ap length e in whole v.seen history bv (omega arith))),
             ))
             (λ isnt'. (l.0, l.1, set_else ws other l.0 spent_view isnt' ∙ (set_else vs id l.0 b isnt ∙ l.2), l.3)));
       }

@@ -1,6 +1,8 @@
 -- Sums over a list and what holds of each of its elements, after one was changed; beginnings of a list; the longer of two.
-use Rattle.std.proofs.Common.{◌≡◌, ℕ, zero, suc, ◌+◌, ◌<◌, ◌≤◌, ◌≢◌, nat_lt, Bool, true, false, if◌then◌else◌, List, [], ◌∷◌, ◌++◌, length, set, sym, refl, ap, ◌∙◌, arith, append_assoc}
+use Rattle.std.proofs.Common.{◌≡◌, ℕ, zero, suc, ◌+◌, ◌<◌, ◌≤◌, ◌≢◌, ◌⊎◌, inl, inr, nat_lt, Bool, true, false, if◌then◌else◌, List, [], ◌∷◌, ◌++◌, length, set, sym, refl, ap, ◌∙◌, arith, append_assoc}
+use mathlib.Core.Logic.{dite}
 use mathlib.Core.List.{IsPrefix, append-nil}
+use native.Mathlib.Decide.{dec_le}
 use mathlib.Core.Option.{some-injective, some-ne-none}
 use Rattle.std.proofs.lemmas.Bool.Decides.{nat_tests}
 use Rattle.device_lock.specs.Lists.{At, Each, total, longer, shorter}
@@ -67,6 +69,10 @@ module _ {A : Type 0} where
       let heads : x ≡ y = cc (p.1, q.1) in
       let rest = prefix_shorter xs ys zs (p.0, cc (p.1)) (q.0, cc (q.1)) (omega arith) in
       (rest.0, cc (heads, rest.1))
+
+  -- of two beginnings of one list one begins the other
+  pub prefix_either : (xs ys zs : List A) → IsPrefix xs zs → IsPrefix ys zs → IsPrefix xs ys ⊎ IsPrefix ys xs
+  prefix_either xs ys zs p q = dite (dec_le (length xs) (length ys)) (λ le. inl (prefix_shorter xs ys zs p q le)) (λ more. inr (prefix_shorter ys xs zs q p (omega arith)))
 
   pub prefix_trans : (xs ys zs : List A) → IsPrefix xs ys → IsPrefix ys zs → IsPrefix xs zs
   prefix_trans xs ys zs p q = (p.0 ++ q.0, sym (append_assoc xs p.0 q.0) ∙ (ap (λ w. w ++ q.0) p.1 ∙ q.1))

@@ -1,4 +1,5 @@
 -- What a contract sees of a lock, of a pass, and of the value in a caller's turn.
+use Rattle.std.specs.Prelude.{◌≡◌, []}
 use Rattle.atomic_table.specs.Seated.{TableId}
 use Rattle.device_lock.specs.declared.kept.Kept.{Ghosts}
 use Rattle.device_lock.specs.declared.held.Held.{Held}
@@ -6,6 +7,7 @@ use Rattle.device_lock.specs.declared.held.Logged.{Logged}
 use Rattle.device_lock.specs.declared.lock.Lock.{Lock}
 use Rattle.device_lock.specs.declared.pass.LockPass.{LockPass}
 use Rattle.device_lock.specs.declared.view.View.{View}
+use Rattle.device_lock.specs.Views.{IsAway}
 
 module _ {T I : Type 0} where
   -- which lock it is
@@ -19,6 +21,10 @@ module _ {T I : Type 0} {g : Ghosts T I} where
 
   abbrev pub pass_view : LockPass T I g → View I
   pass_view p = p.seat.me.0
+
+  -- Outside a call a pass has drawn no ticket, is not in its turn, was not joined into another one, and holds no slot.
+  abbrev pub IsOutside : LockPass T I g → Type 0
+  IsOutside p = IsAway (pass_view p) × (p.seat.me.1 ≡ [])
 
   -- the same of a turn before anything is logged, with the value
   abbrev pub held_lock : Held T I g → TableId

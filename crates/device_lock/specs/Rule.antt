@@ -1,6 +1,6 @@
 -- What is true of a lock between any two steps, whatever the threads do. Its words are `next`, the ticket that the next caller
 -- draws; `serving`, the ticket whose turn it is; and `logged`, how many items were logged. Its one slot has the value.
-use Rattle.std.specs.Prelude.{◌≡◌, ◌⊎◌, ℕ, ◌+◌, ◌^◌, ◌<◌, ◌≤◌, List, [], ◌∷◌, length, Option, Some}
+use Rattle.std.specs.Prelude.{◌≡◌, ◌⊎◌, ℕ, ◌+◌, ◌^◌, ◌<◌, ◌≤◌, false, List, [], ◌∷◌, length, Option, Some}
 use mathlib.Core.Option.{none, some}
 use mathlib.Core.Option as maybe
 use mathlib.Core.List.{IsPrefix}
@@ -22,14 +22,14 @@ module _ {I : Type 0} (views : List (View I)) where
     pub once : (j k : ℕ) (v w : View I) (t : ℕ) → At views j v → At views k w → v.ticket ≡ Some t → w.ticket ≡ Some t → j ≡ k
 
   module _ {T : Type 0} (stands : T → List I → Type 0) where
-    -- The history is the longest that a pass has seen.
+    -- The history is the longest that a pass has seen which was not joined into another one.
     pub record Past (logged : ℕ) (history : List I) : Type 0 where
       pub counted : logged ≡ length history
       -- It is legal: some value stands for it.
       pub legal : (x : T) × stands x history
       -- What each pass has seen is a beginning of it.
       pub begun : (j : ℕ) (v : View I) → At views j v → IsPrefix v.seen history
-      pub longest : Somewhere views (λ v. v.seen ≡ history)
+      pub longest : Somewhere views (λ v. (v.spent ≡ false) × (v.seen ≡ history))
 
     -- Only the pass whose ticket is being served holds the value, and logs.
     pub record Hold (homes : List (maybe.Option (Option T))) (serving logged : ℕ) (history : List I) : Type 0 where

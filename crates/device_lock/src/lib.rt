@@ -19,7 +19,7 @@ mod view;
 
 pub use held::{Held, Logged};
 pub use kept::{Kept, Names};
-pub use laws::one_history;
+pub use laws::{one_history, passes_hold_nothing};
 pub use lock::Lock;
 pub use pass::LockPass;
 pub use view::{Account, Share, Turn, View};

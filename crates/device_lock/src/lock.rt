@@ -8,7 +8,7 @@ use crate::held::{Hand, Held};
 use crate::kept::Kept;
 use crate::pass::LockPass;
 use crate::rule::{Board, LOGGED, NEXT, Place, SERVING};
-use crate::steps::{Cut, Draw, Glue, Learn, Look};
+use crate::steps::{Cut, Draw, Glue, Learn, Look, Meet, Show, Tell};
 use atomic_table::Table;
 use std::alloc::{AllocError, Global};
 use std::sync::Wait;
@@ -32,8 +32,8 @@ pub struct Lock<T: Kept> {
 
 impl<T: Kept> Lock<T> {
     ghost use Rattle.std.specs.Prelude.{IfOk};
-    ghost use Rattle.device_lock.specs.Numbers.{items_of, Knows};
-    ghost use Rattle.device_lock.specs.Views.{first_view, split_left, split_right, joined_view, IsSamePass};
+    ghost use Rattle.device_lock.specs.Numbers.{items_of, Knows, AreOfOneHistory};
+    ghost use Rattle.device_lock.specs.Views.{first_view, split_left, split_right, joined_view, met_view, IsSamePass};
     ghost use Rattle.device_lock.specs.Steps.{HasTurn};
     ghost use Rattle.device_lock.specs.Passes.{lock_id, pass_lock, pass_view, held_lock, held_view, held_value};
 
@@ -168,5 +168,35 @@ impl<T: Kept> Lock<T> {
         words.join_seat::<Glue>(&mut seat, other);
         words.load::<Learn>(&mut seat, LOGGED);
         LockPass { seat }
+    }
+
+    // Shows the seat what the other one has seen.
+    fn meet(&self, seat: &mut Place<T>, other: &mut Place<T>)
+        requires locks { (seat.old.table_id ≡ lock_id self.now) × (other.old.table_id ≡ lock_id self.now) }
+        requires away { IsAway seat.old.me.0 }
+        ensures locks { (seat.new.table_id ≡ seat.old.table_id) × (other.new.table_id ≡ other.old.table_id) }
+        ensures seat { seat.new.me ≡ (met_view seat.old.me.0 other.old.me.0, seat.old.me.1) }
+        ensures other { other.new.me ≡ other.old.me }
+        ensures history { AreOfOneHistory T.caller seat.old.me.0 other.old.me.0.seen }
+    {
+        let words = &self.table.shared;
+        let shown = words.split_seat::<Show>(other);
+        words.join_seat::<Meet>(seat, shown);
+        words.load::<Tell>(seat, LOGGED);
+    }
+
+    /// Compares what two passes have seen: of the two, one is a beginning of the other; the items of a pass's number stand
+    /// in both in the order in which it logged them; and none has a number that a pass is still to give. The passes stay
+    /// as they are, but for what each remembers of having met the other.
+    pub fn compare(&self, a: &mut LockPass<T>, b: &mut LockPass<T>)
+        requires locks { (pass_lock a.old ≡ lock_id self.now) × (pass_lock b.old ≡ lock_id self.now) }
+        ensures locks { (pass_lock a.new ≡ pass_lock a.old) × (pass_lock b.new ≡ pass_lock b.old) }
+        ensures a { pass_view a.new ≡ met_view (pass_view a.old) (pass_view b.old) }
+        ensures b { pass_view b.new ≡ met_view (pass_view b.old) (pass_view a.old) }
+        ensures of_a { AreOfOneHistory T.caller (pass_view a.old) (pass_view b.old).seen }
+        ensures of_b { AreOfOneHistory T.caller (pass_view b.old) (pass_view a.old).seen }
+    {
+        self.meet(&mut a.seat, &mut b.seat);
+        self.meet(&mut b.seat, &mut a.seat);
     }
 }

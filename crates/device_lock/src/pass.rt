@@ -10,6 +10,6 @@ use crate::rule::Place;
 #[derive(Drop)]
 pub struct LockPass<T: Kept> {
     pub(crate) seat: Place<T>,
-    ghost empty: { seat.me.1 ≡ [] },
-    ghost away: { IsAway seat.me.0 },
+    pub ghost empty: { seat.me.1 ≡ [] },
+    pub ghost away: { IsAway seat.me.0 },
 }

@@ -41,6 +41,6 @@ pub struct View<I> {
     pub turn: Turn,
     /// It was joined into another one.
     pub spent: bool,
-    /// The shorter of the two histories that were seen when another one was last joined into it.
+    /// What another pass had seen when it last met one: in a join, the shorter of what the two had seen.
     pub met: LinkedList<I>,
 }

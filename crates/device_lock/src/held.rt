@@ -85,6 +85,7 @@ impl<T: Kept> Held<T> {
     {
         let mut home = self.put(lock);
         lock.table.shared.fetch_add::<Serve>(&mut home, SERVING, 1);
+        lock.wake();
         LockPass { seat: home }
     }
 }
@@ -101,6 +102,7 @@ impl<T: Kept> Logged<T> {
     {
         let Logged { mut seat } = self;
         lock.table.shared.fetch_add::<Serve>(&mut seat, SERVING, 1);
+        lock.wake();
         LockPass { seat }
     }
 }

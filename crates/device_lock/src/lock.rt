@@ -15,13 +15,11 @@ use std::sync::Wait;
 use std::time::Duration;
 use std::{hint, thread};
 
-// So many looks are followed by spins, twice as many each time, and so many by a spin or a yield.
+// So many looks are followed by spins, twice as many each time.
 const SPINS: u32 = 6;
 
-const YIELDS: u32 = 16;
-
-// A short sleep, in microseconds.
-const NAP: u64 = 50;
+// The longest sleep, in microseconds. Who serves the next ticket wakes all that sleep.
+const NAP: u64 = 10_000;
 
 /// A value with a history, which one caller at a time takes, in the order of their tickets.
 #[derive(Drop)]
@@ -96,19 +94,26 @@ impl<T: Kept> Lock<T> {
         unreachable!()
     }
 
-    // Gives another thread time to serve the next ticket, more of it after more looks: some spins, then
-    // a yield, then a short sleep.
+    // Gives another thread time to serve the next ticket: some spins, twice as many after each look, and
+    // then a sleep until that ticket is served.
     fn pause<R: Wait>(&self, rt: &R, looks: u32, serving: u64) {
         if looks < SPINS {
             for _ in 0..1u32 << looks {
                 hint::spin_loop();
             }
-        } else if looks < YIELDS {
-            thread::yield_now();
         } else {
             let words = &self.table.shared;
             let low = (serving % (1 << 32)) as u32;
             words.park_timeout(rt, SERVING, low, Duration::from_micros(NAP));
+        }
+    }
+
+    // Wakes those that wait for their turn, where some do. Who draws a ticket after this look at `NEXT`
+    // finds the ticket that is served now.
+    pub(crate) fn wake(&self) {
+        let words = &self.table.shared;
+        if words.peek(NEXT) != words.peek(SERVING) {
+            words.wake_all(SERVING);
         }
     }
 

@@ -1,5 +1,5 @@
 #!/bin/sh
-# Measures turns of a lock against std's Mutex around the same work. Run by hand: sh bench/device_lock/run.sh
+# Measures turns of a lock against std's Mutex around the same work, and what waiting costs. Run by hand: sh bench/device_lock/run.sh
 set -e
 here=$(cd "$(dirname "$0")" && pwd)
 work=$(mktemp -d)
@@ -13,9 +13,12 @@ cp "$here/invariants.antt.txt" "$work/crates/lock_bench/proofs/count_many/Invari
 printf 'device_lock: atomic_table\nlock_bench: device_lock\n' >"$work/crates.txt"
 echo 'Handles allowed: Threads, Wait.' >"$work/HANDLES"
 cd "$work/crates/lock_bench"
-rt run >"$work/rattle.log" 2>&1 || { tail -20 "$work/rattle.log"; exit 1; }
-echo "a million turns: ms alone, ms by four threads"
+rt run </dev/null >"$work/rattle.log" 2>&1 || { tail -20 "$work/rattle.log"; exit 1; }
+echo "a million turns: ms alone, ms by four threads, ms by sixteen"
 for round in 1 2 3 4 5; do
-    ./out/lock_bench
+    ./out/lock_bench </dev/null
 done
+echo "sixteen threads, each of which holds the value for 100 ms:"
+echo holds >"$work/stdin"
+bash -c 'TIMEFORMAT="%R s, of the processor %U s and %S s"; time ./out/lock_bench <"$1"' bash "$work/stdin"
 grep -m1 'model name' /proc/cpuinfo

@@ -292,3 +292,10 @@ module _ {I : Type 0} (caller : I → List ℕ) where
 
   pub of_shown : (v w u m : View I) → m ≡ met_view v w → w ≡ shown_view u → AreOfOneHistory caller m m.met → AreOfOneHistory caller v u.seen
   of_shown v w u m met shown h = subst (λ (w : View I). AreOfOneHistory caller v w.seen) shown (of_met v w (subst (λ (m : View I). AreOfOneHistory caller m m.met) met h))
+
+  met_of : (v w : View I) (xs : List I) → AreOfOneHistory caller v xs → AreOfOneHistory caller (met_view v w) xs
+  met_of v w xs h = record { beginnings = h.beginnings; in_order = h.in_order; all = h.all; given = h.given }
+
+  -- Two passes that have met are of one history still.
+  pub both_met : (v w v' w' : View I) → v' ≡ met_view v w → w' ≡ met_view w v → AreOfOneHistory caller v w.seen → AreOfOneHistory caller v' w'.seen
+  both_met v w v' w' e f h = subst (λ (p : View I × View I). AreOfOneHistory caller p.0 p.1.seen) (λ k. (sym e k, sym f k)) (met_of v w w.seen h)

@@ -198,8 +198,8 @@ impl<T: Kept> Lock<T> {
         ensures locks { (pass_lock a.new ≡ pass_lock a.old) × (pass_lock b.new ≡ pass_lock b.old) }
         ensures a { pass_view a.new ≡ met_view (pass_view a.old) (pass_view b.old) }
         ensures b { pass_view b.new ≡ met_view (pass_view b.old) (pass_view a.old) }
-        ensures of_a { AreOfOneHistory T.caller (pass_view a.old) (pass_view b.old).seen }
-        ensures of_b { AreOfOneHistory T.caller (pass_view b.old) (pass_view a.old).seen }
+        ensures of_a { AreOfOneHistory T.caller (pass_view a.new) (pass_view b.new).seen }
+        ensures of_b { AreOfOneHistory T.caller (pass_view b.new) (pass_view a.new).seen }
     {
         self.meet(&mut a.seat, &mut b.seat);
         self.meet(&mut b.seat, &mut a.seat);

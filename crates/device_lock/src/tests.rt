@@ -162,7 +162,7 @@ fn are_all_below(mut places: Vec<u64>, n: u64) -> Result<bool, Fail> {
 fn two_threads_log_into_one_history(rt: HostRuntime) -> Result<(), Fail> {
     let (lock, pass) = Lock::new(rt.alloc(), Tally { count: 0 })?;
     let (pass, places) = count_by_two(&rt, rt.alloc(), &lock, pass, 1000);
-    let places = places.ok_or("the places rise")?;
+    let places = places.ok_or("the places rise, and there is memory for them")?;
     assert!(rt; are_all_below(places, 2000)?);
     let (pass, count) = look(&rt, &lock, pass);
     assert_eq!(rt; count, 2000);
@@ -175,7 +175,7 @@ fn two_threads_log_into_one_history(rt: HostRuntime) -> Result<(), Fail> {
 fn four_threads_log_with_passes_of_a_tree(rt: HostRuntime) -> Result<(), Fail> {
     let (lock, pass) = Lock::new(rt.alloc(), Tally { count: 0 })?;
     let (pass, places) = count_by_four(&rt, rt.alloc(), &lock, pass, 250);
-    let places = places.ok_or("the places rise")?;
+    let places = places.ok_or("the places rise, and there is memory for them")?;
     assert!(rt; are_all_below(places, 1000)?);
     let (_, count) = look(&rt, &lock, pass);
     assert_eq!(rt; count, 1000);

@@ -278,6 +278,7 @@ module _ {I : Type 0} (caller : I → List ℕ) where
   pub of_one_history : (vs : List (View I)) (id : ℕ) (history xs : List I) (v : View I) → At vs id v → v.spent ≡ false → IsPrefix v.seen history → IsPrefix xs history → Numbers vs caller history → AreOfOneHistory caller v xs
   of_one_history vs id history xs v at live begun other n = let k = n.kept id v at live in record {
     beginnings = prefix_either v.seen xs history begun other;
+    own = k.1;
     in_order = (
       starts_of v.number history xs v.own other k.0.0,
       each_map (λ a. items_of caller a.number history ≡ a.own) (λ a. IsPrefix (items_of caller a.number xs) a.own) (λ a is. starts_of a.number history xs a.own other is) v.joined k.0.1,
@@ -288,13 +289,13 @@ module _ {I : Type 0} (caller : I → List ℕ) where
 
   -- What a pass is told of what it has met, it is told of what the other pass u has seen.
   of_met : (v w : View I) → AreOfOneHistory caller (met_view v w) w.seen → AreOfOneHistory caller v w.seen
-  of_met v w h = record { beginnings = h.beginnings; in_order = h.in_order; all = h.all; given = h.given }
+  of_met v w h = record { beginnings = h.beginnings; own = h.own; in_order = h.in_order; all = h.all; given = h.given }
 
   pub of_shown : (v w u m : View I) → m ≡ met_view v w → w ≡ shown_view u → AreOfOneHistory caller m m.met → AreOfOneHistory caller v u.seen
   of_shown v w u m met shown h = subst (λ (w : View I). AreOfOneHistory caller v w.seen) shown (of_met v w (subst (λ (m : View I). AreOfOneHistory caller m m.met) met h))
 
   met_of : (v w : View I) (xs : List I) → AreOfOneHistory caller v xs → AreOfOneHistory caller (met_view v w) xs
-  met_of v w xs h = record { beginnings = h.beginnings; in_order = h.in_order; all = h.all; given = h.given }
+  met_of v w xs h = record { beginnings = h.beginnings; own = h.own; in_order = h.in_order; all = h.all; given = h.given }
 
   -- Two passes that have met are of one history still.
   pub both_met : (v w v' w' : View I) → v' ≡ met_view v w → w' ≡ met_view w v → AreOfOneHistory caller v w.seen → AreOfOneHistory caller v' w'.seen

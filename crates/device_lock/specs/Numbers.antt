@@ -36,6 +36,8 @@ module _ {I : Type 0} (caller : I → List ℕ) where
   pub record AreOfOneHistory (v : View I) (seen : List I) : Type 0 where
     -- One of the two has seen a beginning of what the other has seen.
     pub beginnings : IsPrefix v.seen seen ⊎ IsPrefix seen v.seen
+    -- What v has seen of its own items is all of them, in its order.
+    pub own : Keeps v v.seen
     -- What the other has seen of v's items is in v's order, and it is all of them where the other has seen all that v has.
     pub in_order : Starts v seen
     pub all : IsPrefix v.seen seen → Keeps v seen

@@ -10,7 +10,7 @@ use Rattle.std.proofs.lemmas.Int.{fits_signed_from_abs, ints, to_z-of_z, unsigne
 use Rattle.std.proofs.lemmas.List.{drop_all}
 use Rattle.marking.specs.OrderCounts.{total, wrapped_msb}
 
-le_yes : (a b : ℤ) → a ≤ℤ b → int_le a b ≡ true
+pub le_yes : (a b : ℤ) → a ≤ℤ b → int_le a b ≡ true
 le_yes a b h = grind (arith, ints)
 
 le_no : (a b : ℤ) → b <ℤ a → int_le a b ≡ false

@@ -1,16 +1,16 @@
 -- What a marker stands for, from picture to picture.
-use Rattle.std.proofs.Common.{◌≡◌, ℕ, ◌+◌, ◌*◌, ◌^◌, ◌<◌, ◌≤◌, Bool, true, false, nat_lt, if◌then◌else◌, List, [], ◌∷◌, ◌++◌, length, get_or, ℤ, pos, negsuc, ◌-ℤ◌, ◌≤ℤ◌, Option, Some, None, Result, Ok, Err, refl, sym, ap, ◌∙◌, subst, arith, length-append, lit<}
+use Rattle.std.proofs.Common.{◌≡◌, ℕ, ◌+◌, ◌*◌, ◌^◌, ◌<◌, ◌≤◌, Bool, true, false, nat_lt, if◌then◌else◌, List, [], ◌∷◌, ◌++◌, get_or, ℤ, pos, negsuc, ◌-ℤ◌, ◌≤ℤ◌, Option, Some, None, Result, Ok, Err, refl, sym, ap, ◌∙◌, arith, lit<}
 use mir.Syntax.{w32}
 use mir.Val.{SFits}
 use Rattle.std.proofs.Math.Nat.{pow-le-pow_right}
 use Rattle.std.specs.Int.{int_min}
-use Rattle.std.specs.Option.{option_and_then, option_map}
+use Rattle.std.specs.Option.{option_and_then}
 use Rattle.std.proofs.lemmas.Int.{clamps, ints}
 use Rattle.cb_types.specs.declared.header.Header.{Header}
 use Rattle.param_sets.specs.declared.pps.Pps.{Pps}
 use Rattle.param_sets.specs.declared.sps.Sps.{Sps}
 use Rattle.marking.specs.Begun.{begun_by, begun_of, begun_or_fault, counts_of, frames_before, is_gap_fault, last_frame_num_after, lsb_after, msb_after, settled_by, marker_after, max_frame_num, numbers_of, or_refused, settled_of, settled_with}
-use Rattle.marking.specs.History.{HasRanges, Picture, StandsFor, after_picture, after_pictures, after_settled, no_pictures}
+use Rattle.marking.specs.History.{HasRanges, Picture, after_picture, after_pictures, no_pictures}
 use Rattle.marking.specs.declared.begun.Begun.{Begun}
 use Rattle.marking.specs.declared.begun.MarkFault.{MarkFault}
 use Rattle.marking.specs.declared.begun.MarkFault.TheVariants.{Gap, Refused}
@@ -25,6 +25,7 @@ use Rattle.marking.specs.declared.counts.Orders.{Orders}
 use Rattle.marking.specs.declared.marker.Marker.{Marker}
 use Rattle.marking.specs.declared.marker.Settled.{Settled}
 use Rattle.marking.specs.declared.numbers.Numbers.{Numbers}
+use Rattle.marking.proofs.SomeLemmas.{and_then_some, map_some}
 
 pub after_none : after_pictures [] no_pictures ≡ Some no_pictures
 unfolding after_pictures
@@ -41,12 +42,6 @@ settled_ok s = Ok s
 
 abbrev settled_err : MarkFault → Result Settled MarkFault
 settled_err fault = Err fault
-
-same_some : {A : Type 0} (a b : A) → Some a ≡ Some b → a ≡ b
-same_some a b e = cc
-
-none_some : {A : Type 0} (a : A) → None ≡ Some a → ⊥
-none_some a e = cc
 
 ok_same : (a b : Begun) → begun_ok a ≡ begun_ok b → a ≡ b
 ok_same a b e = cc
@@ -68,15 +63,6 @@ by_first : (f g h : Marker → Option Marker) → ((m : Marker) → f m ≡ opti
 by_first f g h same None = refl
 by_first f g h same (Some m) = same m
 
--- what some answer comes from
-pub and_then_some : {A B : Type 0} (f : A → Option B) (o : Option A) (b : B) → option_and_then f o ≡ Some b → (a : A) × (o ≡ Some a) × (f a ≡ Some b)
-and_then_some f None b e = absurd (none_some b e)
-and_then_some f (Some a) b e = (a, refl, e)
-
-pub map_some : {A B : Type 0} (f : A → B) (o : Option A) (b : B) → option_map f o ≡ Some b → (a : A) × (o ≡ Some a) × (f a ≡ b)
-map_some f None b e = absurd (none_some b e)
-map_some f (Some a) b e = (a, refl, same_some (f a) b e)
-
 -- one more picture behind these
 pub after_push : (pictures : List Picture) (picture : Picture) (start : Marker) → after_pictures (pictures ++ picture ∷ []) start ≡ option_and_then (after_picture picture) (after_pictures pictures start)
 unfolding after_pictures
@@ -89,7 +75,7 @@ after_more pictures picture start marker next here step = after_push pictures pi
 
 -- ---- what is known of a picture that began
 
-ok_inv : (sps : Sps) (pps : Pps) (header : Header) (begun : Begun) (r : Result Settled MarkFault) → begun_or_fault sps pps header r ≡ Ok begun
+pub ok_inv : (sps : Sps) (pps : Pps) (header : Header) (begun : Begun) (r : Result Settled MarkFault) → begun_or_fault sps pps header r ≡ Ok begun
     → (s : Settled) × (r ≡ Ok s) × (begun_by sps pps header s ≡ begun)
 ok_inv sps pps header begun (Ok s) e = (s, refl, ok_same (begun_by sps pps header s) begun e)
 ok_inv sps pps header begun (Err fault) e = absurd (err_ok fault begun e)
@@ -102,7 +88,7 @@ refused_inv : (o : Option Settled) (s : Settled) → or_refused o ≡ Ok s → o
 refused_inv None s e = absurd (err_settled Refused s e)
 refused_inv (Some t) s e = ap (λ (x : Settled). Some x) (settled_same t s e)
 
-settled_inv : (marker : Marker) (sps : Sps) (header : Header) (s : Settled) → settled_of marker sps header ≡ Ok s
+pub settled_inv : (marker : Marker) (sps : Sps) (header : Header) (s : Settled) → settled_of marker sps header ≡ Ok s
     → (counts : Counts) × (counts_of marker sps header ≡ Some counts) × (settled_with marker (numbers_of sps header) header counts ≡ Some s)
 unfolding settled_of
 settled_inv marker sps header s e =
@@ -244,32 +230,6 @@ settled_again marker sps pps begun e =
       numbers,
       sym counts,
     )
-
-pub stands_after : (marker next : Marker) (pictures : List Picture) (sps : Sps) (pps : Pps) (begun : Begun) (settled : Settled)
-    → StandsFor marker pictures → begun_of marker sps pps begun.header ≡ Ok begun → begun.header.frame_num < max_frame_num sps → max_frame_num sps ≤ 2 ^ 16
-    → Some settled ≡ settled_with marker (info_numbers begun) begun.header (counts_in begun)
-    → next ≡ marker_after marker (info_numbers begun) begun.header settled
-    → settled.marks.indices ≤ 16 → SFits w32 (counts_in begun).top → SFits w32 (counts_in begun).bottom → begun.header.poc_lsb < 2 ^ 32
-    → StandsFor next (pictures ++ record { sps = sps; header = begun.header } ∷ [])
-stands_after marker next pictures sps pps begun settled stands e below small found step few top bottom lsb =
-    let picture : Picture = record { sps = sps; header = begun.header } in
-    let again = settled_again marker sps pps begun e in
-    let s = again.0 in
-    let same : settled ≡ s = same_some settled s (found ∙ again.2) in
-    let n = numbers_of sps begun.header in
-    let is : next ≡ marker_after marker n begun.header s =
-    step ∙ ap (λ (m : Numbers). marker_after marker m begun.header settled) again.3 ∙ ap (λ (t : Settled). marker_after marker n begun.header t) same in
-    let I : Settled → Type 0 = λ t. t.marks.indices ≤ 16 in
-    let T : Counts → Type 0 = λ k. SFits w32 k.top in
-    let B : Counts → Type 0 = λ k. SFits w32 k.bottom in
-    let R : Marker → Type 0 = λ m. HasRanges m (length pictures + 1) in
-    let L : ℕ → Type 0 = λ k. HasRanges next k in
-    record {
-      after = after_more pictures picture no_pictures marker next stands.after
-          (ap (after_settled marker picture) again.1 ∙ ap (λ (m : Marker). Some m) (sym is));
-      ranges = subst L (sym (length-append pictures (picture ∷ [])))
-          (subst R (sym is) (ranges_after marker n begun.header s (length pictures) stands.ranges below small refl (subst I same few) (subst T (sym again.4) top) (subst B (sym again.4) bottom) lsb));
-    }
 
 pow_small : (k : ℕ) → k ≤ 16 → 2 ^ k ≤ 2 ^ 16
 pow_small k few = pow-le-pow_right (lit< tt) few

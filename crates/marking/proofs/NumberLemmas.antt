@@ -1,5 +1,5 @@
 -- So many frames have no more numbers of their own.
-use Rattle.std.proofs.Common.{◌≡◌, ◌≢◌, ℕ, zero, suc, ◌+◌, ◌<◌, ◌≤◌, ◌==◌, Bool, true, false, not, ◌||◌, cond, if◌then◌else◌, List, [], ◌∷◌, length, filter, refl, sym, ap, ◌∙◌, subst, arith, inl, inr}
+use Rattle.std.proofs.Common.{◌≡◌, ◌≢◌, ℕ, zero, suc, ◌+◌, ◌<◌, ◌≤◌, Bool, true, false, not, ◌||◌, cond, if◌then◌else◌, List, [], ◌∷◌, length, filter, refl, sym, ap, ◌∙◌, subst, arith, inl, inr}
 use Rattle.std.specs.List.{list_any}
 use Rattle.std.proofs.lemmas.Bool.{cases_eq}
 use Rattle.std.proofs.lemmas.Bool.Decides.{nat_tests}
@@ -75,3 +75,7 @@ from_is_least frames (suc tries) number all taken =
 
 pub free_number_is_least : FreeNumberIsLeast
 free_number_is_least frames = from_is_least frames (length frames) 0 (omega arith) (λ k h. absurd (omega arith))
+
+-- so many frames have their numbers
+pub number_few : (frames : List Reference) → free_number frames ≤ length frames
+number_few frames = taken_few (free_number frames) frames (free_number_is_least frames).least

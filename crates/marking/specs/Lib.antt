@@ -1,4 +1,5 @@
 pub mod Begun
+pub mod HeaderInfo
 pub mod Frames
 pub mod History
 pub mod Operations

@@ -7,6 +7,7 @@ mod begun;
 mod counts;
 mod cycles;
 mod frames;
+mod header_fields;
 mod info;
 mod laws;
 mod marker;
@@ -16,5 +17,6 @@ mod operations;
 mod sliding;
 
 pub use begun::{Begun, MarkFault};
-pub use laws::own_number_is_least;
+pub use header_fields::header_info;
+pub use laws::{named_behind, own_number_is_least};
 pub use marker::Marker;

@@ -1,5 +1,6 @@
 // Which frames are marked, from picture to picture.
-ghost use Rattle.std.specs.Prelude.{◌≡◌, ◌≤◌, ◌<◌, ◌^◌, ◌∷◌, ◌++◌, [], ℕ, List, IfSome, Ok};
+ghost use Rattle.std.specs.Prelude.{◌≡◌, ◌≤◌, ◌<◌, ◌^◌, ◌∷◌, ◌++◌, [], ℕ, List, IfOk, IfSome, Ok};
+ghost use Rattle.cb_types.specs.AcceptedInfo.{IsAccepted};
 ghost use Rattle.param_sets.specs.Accepted.{IsAcceptedPps, IsAcceptedSps};
 ghost use Rattle.marking.specs.Operations.{HasRoom};
 ghost use Rattle.marking.specs.Begun.{begun_by, references_of};
@@ -76,7 +77,7 @@ fn references_of(header: &Header, frames: &Frames) -> [Reference; MAX_FRAMES]
 
 impl Marker {
     ghost use Rattle.marking.specs.Begun.{begun_of, frames_before, is_gap_fault, marker_after, max_frame_num, settled_of, settled_with};
-    ghost use Rattle.marking.specs.History.{HasRanges, MayBegin, Picture, StandsFor};
+    ghost use Rattle.marking.specs.History.{AreNamed, HasRanges, MayBegin, Picture, StandsFor, own_number};
 
     /// No picture was finished.
     pub fn new() -> Marker
@@ -98,7 +99,11 @@ impl Marker {
     /// The picture whose first slice has this header, with the parameter sets that it names.
     pub fn begin(&self, sps: &Sps, pps: &Pps, header: &Header) -> Result<Begun, MarkFault>
         requires { (pictures : List Picture) × StandsFor self.now pictures × MayBegin pictures sps.now pps.now header.now }
-        ensures { result ≡ begun_of self.now sps.now pps.now header.now }
+        ensures value { result ≡ begun_of self.now sps.now pps.now header.now }
+        ensures info { IfOk result (λ begun. IsAccepted 0 sps.now.max_num_ref_frames begun.info) }
+        ensures frame { IfOk result (λ begun. begun.frame ≤ 16) }
+        ensures own { (pictures : List Picture) → StandsFor self.now pictures → IfOk result (λ begun. own_number pictures (record { sps = sps.now; header = header.now }) ≡ Some begun.frame) }
+        ensures references { (pictures : List Picture) → StandsFor self.now pictures → MayBegin pictures sps.now pps.now header.now → IfOk result (λ begun. AreNamed pictures begun.info.references) }
     {
         match self.settled(sps, header) {
             Ok(settled) => Ok(begun_by(sps, pps, header, settled)),

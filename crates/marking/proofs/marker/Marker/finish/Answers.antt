@@ -3,7 +3,8 @@ use mir.Syntax.{w32}
 use mir.Val.{SFits, of_z, to_z}
 use Rattle.std.proofs.lemmas.Int.{to_z-of_z}
 use Rattle.marking.specs.Begun.{marker_after, settled_with}
-use Rattle.marking.proofs.HistoryLemmas.{counts_in, info_numbers, max_small, none_settled, settled_again, stands_after}
+use Rattle.marking.proofs.HistoryLemmas.{counts_in, info_numbers, none_settled, settled_again}
+use Rattle.marking.proofs.StandsLemmas.{stands_after}
 use Rattle.marking.proofs.marker.Marker.finish.Goals as goal
 
 pub returns-in-Some : goal.returns-in-Some
@@ -28,7 +29,7 @@ returns-in-Some c = λ pictures sps pps stands may e.
     c.take.ensures refl
     ∙ ap (λ (m : ℕ). marker_after marker (record { max_frame_num = m; frame_num = header.frame_num; max_num_ref_frames = c.from.result }) header settled) c.max_frame_num.ensures.value
     ∙ ap (λ (m : ℕ). marker_after marker (record { max_frame_num = max; frame_num = header.frame_num; max_num_ref_frames = m }) header settled) c.from.ensures in
-    stands_after marker c.take.new.self pictures sps pps begun settled stands e may.frame_num (max_small sps may.sps_accepted.log2_max_frame_num_minus4)
+    stands_after marker c.take.new.self pictures sps pps begun settled stands may e
     found step c.in-Some.ensures.indices top bottom lsb
 
 pub returns-in_default : goal.returns-in_default

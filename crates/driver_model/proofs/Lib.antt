@@ -1,0 +1,9 @@
+mod Pictures
+mod SameReplies
+mod Changes
+mod Looks
+mod SameRender
+mod SameStep
+mod OneStep
+mod Leading
+mod Waiting

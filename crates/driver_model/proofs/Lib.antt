@@ -7,3 +7,4 @@ mod SameStep
 mod OneStep
 mod Leading
 mod Waiting
+mod WorkedCases

@@ -8,3 +8,4 @@ mod OneStep
 mod Leading
 mod Waiting
 mod WorkedCases
+mod WorkedCreates

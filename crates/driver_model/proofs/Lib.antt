@@ -1,11 +1,12 @@
-mod Pictures
-mod SameReplies
-mod Changes
-mod Looks
-mod SameRender
-mod SameStep
-mod OneStep
-mod Leading
-mod Waiting
+pub mod Pictures
+pub mod SameReplies
+pub mod Changes
+pub mod Looks
+pub mod SameRender
+pub mod SameStep
+pub mod OneStep
+pub mod Leading
+pub mod Waiting
 mod WorkedCases
 mod WorkedCreates
+pub mod Named

@@ -10,6 +10,11 @@ use Rattle.driver_model.specs.declared.replies.Answer.TheVariants.{Done}
 abbrev pub Reply : Type 0
 Reply = Result Answer Refusal
 
+-- the reply that stands for what a call of the driver answers, where its values are such answers
+abbrev pub reply_with : {A : Type 0} → (A → Answer) → Result A Refusal → Reply
+reply_with answer (Ok value) = Ok (answer value)
+reply_with answer (Err refusal) = Err refusal
+
 -- The state before a call, its reply, and the state behind it.
 module _ (old : State) (reply : Reply) (new : State) where
   -- The call is refused, and the state stays.

@@ -10,3 +10,4 @@ pub mod Waiting
 mod WorkedCases
 mod WorkedCreates
 pub mod Named
+pub mod Rows

@@ -11,3 +11,6 @@ mod WorkedCases
 mod WorkedCreates
 pub mod Named
 pub mod Rows
+pub mod PlainKinds
+pub mod SoundChanges
+pub mod SoundRows

@@ -19,7 +19,7 @@ found_of place device value = record { place = place; device = device; value = v
 some_is : {T : Type 0} (a b : Found T) → (let o : Option (Found T) = Some a in o ≡ Some b) → a ≡ b
 some_is a b e = cc
 
-object_is : (a b : Object) → (let o : Option Object = Some a in o ≡ Some b) → a ≡ b
+pub object_is : (a b : Object) → (let o : Option Object = Some a in o ≡ Some b) → a ≡ b
 object_is a b e = cc
 
 module _ {T : Type 0} (as_kind : Content → Option T) (name : ℕ) where

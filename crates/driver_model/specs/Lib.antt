@@ -21,3 +21,4 @@ pub mod Parts
 pub mod ShownPictures
 pub mod FlipText
 pub mod Laws
+pub mod Sound

@@ -14,3 +14,4 @@ pub mod Rows
 pub mod PlainKinds
 pub mod SoundChanges
 pub mod SoundRows
+pub mod SoundTicks

@@ -7,7 +7,7 @@ use Rattle.driver_model.specs.Sound.{AreSound, IsOutputOf, IsSoundObject, IsSoun
 use Rattle.driver_model.specs.States.{changed_at}
 use Rattle.driver_model.proofs.Named.{object_is}
 
-nothing_there : {A : Type 0} (object : Object) → (let o : Option Object = None in o ≡ Some object) → A
+pub nothing_there : {A : Type 0} (object : Object) → (let o : Option Object = None in o ≡ Some object) → A
 nothing_there object e = absurd (let k : (let o : Option Object = None in o ≡ Some object) = e in cc)
 
 -- Each object is still there, of its device, and an output surface if it was one.

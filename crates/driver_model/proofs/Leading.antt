@@ -121,9 +121,9 @@ unfolding Apart
 apart_more xs y apart other i j d less within = elim (cases_lt j (length xs)) [
   | inl inside ↦ λ same. apart i j d less inside (sym (get_or-append xs (y ∷ []) d i (omega arith)) ∙ (same ∙ get_or-append xs (y ∷ []) d j inside))
   | inr last ↦ λ same.
-    let count = length-append xs (y ∷ []) in
-    let end : j ≡ length xs = omega arith in
-    other i d (omega arith) (sym (get_or-append xs (y ∷ []) d i (omega arith)) ∙ (same ∙ (ap (λ k. get_or (xs ++ y ∷ []) k d) end ∙ get_or-append_seam xs y [] d)))
+      let count = length-append xs (y ∷ []) in
+      let end : j ≡ length xs = omega arith in
+      other i d (omega arith) (sym (get_or-append xs (y ∷ []) d i (omega arith)) ∙ (same ∙ (ap (λ k. get_or (xs ++ y ∷ []) k d) end ∙ get_or-append_seam xs y [] d)))
 ]
 
 or_parts : (a b : Bool) → (a || b) ≡ false → (a ≡ false) × (b ≡ false)
@@ -187,6 +187,6 @@ idle_surfaces_are_not_named s surface place queue idle at_place names_it =
     elim names_it [
       | inl contains ↦ no_entry surface queue.entries contains.0 not_held contains.1 contains.2
       | inr is ↦
-        let here : (surface == surface) ≡ false = subst (λ (o : Option ℕ). option_map_or (λ object. object == surface) o false ≡ false) is not_shown in
-        eq_but_not surface surface refl here
+          let here : (surface == surface) ≡ false = subst (λ (o : Option ℕ). option_map_or (λ object. object == surface) o false ≡ false) is not_shown in
+          eq_but_not surface surface refl here
     ]

@@ -15,3 +15,6 @@ pub mod PlainKinds
 pub mod SoundChanges
 pub mod SoundRows
 pub mod SoundTicks
+pub mod SoundLooks
+pub mod SoundJobs
+pub mod SoundSteps

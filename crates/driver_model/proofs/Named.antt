@@ -65,11 +65,11 @@ module _ {T : Type 0} (as_kind : Content → Option T) (name : ℕ) where
   found_from-Some from [] found e = absurd (let z : (let o : Option (Found T) = None in o ≡ Some found) = e in cc)
   found_from-Some from (object ∷ later) found e = elim (either_or (found_at as_kind name from object) (found_from as_kind name (from + 1) later) found e) [
     | inl here ↦
-      let is = found_at-Some from object found here in
-      record { number = 0; object = object; at_place = is.0 ∙ omega arith; stands = refl; is_named = is.1 }
+        let is = found_at-Some from object found here in
+        record { number = 0; object = object; at_place = is.0 ∙ omega arith; stands = refl; is_named = is.1 }
     | inr there ↦
-      let is = found_from-Some (from + 1) later found there in
-      record { number = suc is.number; object = is.object; at_place = is.at_place ∙ omega arith; stands = is.stands; is_named = is.is_named }
+        let is = found_from-Some (from + 1) later found there in
+        record { number = suc is.number; object = is.object; at_place = is.at_place ∙ omega arith; stands = is.stands; is_named = is.is_named }
   ]
 
   -- the object that a name finds in a state stands at its place there

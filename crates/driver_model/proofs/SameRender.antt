@@ -98,11 +98,15 @@ module _ (s : State) (decoder target : ℕ) (info : PictureInfo) (units : ℕ) w
       let same : found.0 ≡ on = ok_is found.0 on count.1 in
       let of : Decoder = found.0.decoder.value in
       record {
-        accepted = (of.profile, of.max_references, λ field within.
-          none_fails (accepted_fields of.profile of.max_references info) (info_taken-Ok of info fields.0) field within);
+        accepted = (
+          of.profile,
+          of.max_references,
+          λ field within.
+              none_fails (accepted_fields of.profile of.max_references info) (info_taken-Ok of info fields.0) field within,
+        );
         limits = λ sizes.
-          subst (λ (r : Rendering). IsWithinLimits r.decoder.value.size) same
-          (HasSize-named s decoder found.0.decoder sizes (first_found found.0 found.1));
+            subst (λ (r : Rendering). IsWithinLimits r.decoder.value.size) same
+            (HasSize-named s decoder found.0.decoder sizes (first_found found.0 found.1));
       }
 
 -- ---- what is done with it
@@ -121,9 +125,9 @@ module _ (old new other : State) (caller : List ℕ) (reply again : Reply) (info
       let also : IsOutcome g payloads q.outcome p.picture = subst (λ (o : Outcome). IsOutcome g payloads o p.picture) one p.is_outcome in
       let after : State → State = λ s. with_note s caller on.target.place q.outcome in
       let state : new ≡ other =
-        p.after
-        ∙ (ap (λ (o : Outcome). with_note (decoded old on.target p.picture o) caller on.target.place o) one
-        ∙ (ap after (decoded_one g payloads accepted limits old on.target q.outcome p.picture q.picture also q.is_outcome) ∙ sym q.after)) in
+      p.after
+      ∙ (ap (λ (o : Outcome). with_note (decoded old on.target p.picture o) caller on.target.place o) one
+      ∙ (ap after (decoded_one g payloads accepted limits old on.target q.outcome p.picture q.picture also q.is_outcome) ∙ sym q.after)) in
       let replies : reply ≡ again = p.tells ∙ (ap reply_of one ∙ sym q.tells) in
       record { one_state = λ e. state; one_refusal = λ a b ea eb. err_one a b (sym ea ∙ (replies ∙ eb)) }
 
@@ -139,7 +143,7 @@ render_two old new other caller reply again decoder target info bytes sizes p q 
     let looked : Looked Rendering = render old decoder target info (length p.payloads) in
     let one : q.payloads ≡ p.payloads = payloads_one bytes q.payloads p.payloads q.units p.units in
     let also : Goes old again other looked (Decodes old again other caller info p.payloads) =
-      subst (λ (l : List (Option (List ℕ))). Goes old again other (render old decoder target info (length l)) (Decodes old again other caller info l)) one q.goes in
+    subst (λ (l : List (Option (List ℕ))). Goes old again other (render old decoder target info (length l)) (Decodes old again other caller info l)) one q.goes in
     goes_at old new other caller reply again info p.payloads looked
     (λ on h. let t = taken old decoder target info (length p.payloads) on h in (t.accepted, t.limits sizes))
     p.goes also

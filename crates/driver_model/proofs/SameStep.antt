@@ -92,7 +92,7 @@ module _ (old new other : State) (caller : List ℕ) (reply again : Reply) where
   mix_two on p q =
       let bytes : p.bytes ≡ q.bytes = pixels_are_all on.video.value.picture on.mixer.value.matrix on.output.value.format p.bytes q.bytes p.pixels q.pixels in
       both_ok old new other reply again Done Done p.leaves.0 q.leaves.0 (λ e.
-        p.leaves.1 ∙ (ap (λ b. with_note (with_bytes old on.output b) caller on.output.place outcome.Ok) bytes ∙ sym q.leaves.1))
+      p.leaves.1 ∙ (ap (λ b. with_note (with_bytes old on.output b) caller on.output.place outcome.Ok) bytes ∙ sym q.leaves.1))
 
   -- nothing was refused, and these two rows hold
   on_both : {A : Type 0} (looked : Looked A) (D E : A → Type 0) → ((on : A) → D on → E on → TwoSteps new other reply again)
@@ -107,8 +107,8 @@ module _ (old new other : State) (caller : List ℕ) (reply again : Reply) where
   does_two (call.VideoGetBits surface format count) sizes p q = on_both (surfaces.video_bits old surface format count) _ _ (λ on a b. held_two _ _ _ a b) p q
   does_two (call.VideoPutBits surface format bytes) sizes p q =
       on_both (surfaces.video_bits old surface format (length bytes)) _ _ (λ on a b.
-        both_ok old new other reply again Done Done a.1.3.0 b.1.3.0 (λ e.
-          a.1.3.1 ∙ (ap (λ picture. surfaces.with_picture old on picture) (put_one format on.value.picture a.1.0 b.1.0 bytes a.1.1 b.1.1 a.1.2 b.1.2) ∙ sym b.1.3.1))) p q
+      both_ok old new other reply again Done Done a.1.3.0 b.1.3.0 (λ e.
+      a.1.3.1 ∙ (ap (λ picture. surfaces.with_picture old on picture) (put_one format on.value.picture a.1.0 b.1.0 bytes a.1.1 b.1.1 a.1.2 b.1.2) ∙ sym b.1.3.1))) p q
   does_two (call.VideoDestroy surface) sizes p q = on_both (surfaces.video old surface) _ _ (λ on a b. same_two _ _ a b) p q
   does_two (call.OutputCreate device format width height) sizes p q = creates_two old new other reply again (output_create old device format width height) (λ content. content ≡ new_output format width height) (λ a b x y. x ∙ sym y) p q
   does_two (call.OutputGetBits surface count) sizes p q = on_both (surfaces.output_bits old surface count) _ _ (λ on a b. held_two _ _ _ a b) p q

@@ -65,9 +65,9 @@ module _ (change : Object → Object) where
       let follows : Follows objects new = Follows-changed_at devices at_place objects outputs in
       let old_sound : IsSoundObject objects b = elim (get-changed_at at_place place objects b e) [
         | inl here ↦
-          let a : Object = here.1.0 in
-          let there : slice_get objects at_place ≡ Some a = subst (λ k. slice_get objects k ≡ Some a) here.0 here.1.1 in
-          subst (IsSoundObject objects) (sym here.1.2) (keeps a there (sound at_place a there))
+            let a : Object = here.1.0 in
+            let there : slice_get objects at_place ≡ Some a = subst (λ k. slice_get objects k ≡ Some a) here.0 here.1.1 in
+            subst (IsSoundObject objects) (sym here.1.2) (keeps a there (sound at_place a there))
         | inr there ↦ sound place b there
       ] in
       sound_follows objects new follows b.device b.is_live (queue_in b) old_sound

@@ -37,13 +37,13 @@ displayed_is_sound objects device queue entry answer output is = record {
   ];
   empty = λ dead place n. let z : true ≡ false = dead in absurd cc;
   few =
-    let few = is.few in
-    let other = not_full queue entry.earliest answer in
-    let count = length-append queue.entries (entry ∷ []) in
-    elim (at_most (length queue.entries) few) [
-      | inl less ↦ omega arith
-      | inr full ↦ absurd (other full)
-    ];
+      let few = is.few in
+      let other = not_full queue entry.earliest answer in
+      let count = length-append queue.entries (entry ∷ []) in
+      elim (at_most (length queue.entries) few) [
+        | inl less ↦ omega arith
+        | inr full ↦ absurd (other full)
+      ];
 }
 
 pub promised_is_sound : (objects : List Object) (device : ℕ) (queue : Queue ℕ) (time : ℕ) → IsSoundQueue objects device true queue → IsSoundQueue objects device true (promised queue time)
@@ -126,9 +126,11 @@ sound_end on objects = sound_map (destroyed_on on) (λ a. device_is (a.device ==
   device_is : (is_its : Bool) (a : Object) → (if is_its then record a { is_live = false; content = let_go a.content } else a).device ≡ a.device
   device_is true a = refl
   device_is false a = refl
+
   output_is : (is_its : Bool) (a : Object) → IsSome (as_output a.content) → IsSome (as_output (if is_its then record a { is_live = false; content = let_go a.content } else a).content)
   output_is true a is = output-let_go a.content is
   output_is false a is = is
+
   is_sound : (is_its : Bool) (a : Object) → IsSoundObject objects a → IsSoundObject objects (if is_its then record a { is_live = false; content = let_go a.content } else a)
   is_sound true a is = let_go_is_sound objects a.name a.device a.content
   is_sound false a is = is
@@ -188,7 +190,7 @@ sound_shown time due objects sound =
     let tick : Object → Object = λ object. record object { content = with_tick time object.content } in
     let flip : Object → Object = λ object. record object { content = with_flip due.queue time object.content } in
     let middle : AreSound (changed_at due.queue tick objects) =
-      sound_changed_at tick (λ a. refl) due.queue objects (λ a e is. output-with_tick time a.content is) (λ a e is. with_tick_is_sound objects a.name a.device time a.is_live a.content is) sound in
+    sound_changed_at tick (λ a. refl) due.queue objects (λ a e is. output-with_tick time a.content is) (λ a e is. with_tick_is_sound objects a.name a.device time a.is_live a.content is) sound in
     sound_changed_at flip (λ a. refl) due.surface (changed_at due.queue tick objects) (λ a e is. output-with_flip due.queue time a.content is)
     (λ a e is. with_flip_is_sound (changed_at due.queue tick objects) a.name a.device due.queue time a.is_live a.content is) middle
 

@@ -31,13 +31,13 @@ device_of name place = record { name = name; device = place; is_live = true; con
 abbrev start : State
 start = record {
   objects =
-    device_of 0 0
-    ∷ surface_of 1073741825 0 7
-    ∷ surface_of 1073741826 0 8
-    ∷ record { name = 2684354563; device = 0; is_live = true; content = QueueObject (record { window = 9; queue = empty_queue }) }
-    ∷ device_of 4 4
-    ∷ surface_of 1073741829 4 1
-    ∷ [];
+      device_of 0 0
+      ∷ surface_of 1073741825 0 7
+      ∷ surface_of 1073741826 0 8
+      ∷ record { name = 2684354563; device = 0; is_live = true; content = QueueObject (record { window = 9; queue = empty_queue }) }
+      ∷ device_of 4 4
+      ∷ surface_of 1073741829 4 1
+      ∷ [];
   notes = [];
   items = 0;
 }
@@ -80,18 +80,51 @@ two_shown_is_legal : (end : State) × Leads start two_shown end
 unfolding Leads found_from changed_at all_shown
 two_shown_is_legal = (
   _,
-  (_, (_, inr (refl, refl), refl),
-  (_, (_, inr (refl, refl), refl),
-  (_, (_, inr (refl, refl, refl), refl),
-  (_, (_, inr (refl, refl), refl),
-  (_, (_, inr (refl, refl, refl), refl),
-  (_, (_, inr (refl, refl), refl),
-  (_, (_, inr (refl, refl), refl),
-  (_, (_, inr (refl, refl, refl), refl),
-  (_, (_, inr (refl, refl), refl),
-  (_, (_, inr (refl, refl), refl),
-  (_, (_, inr (refl, refl), refl),
-  refl))))))))))),
+  (
+    _,
+    (_, inr (refl, refl), refl),
+    (
+      _,
+      (_, inr (refl, refl), refl),
+      (
+        _,
+        (_, inr (refl, refl, refl), refl),
+        (
+          _,
+          (_, inr (refl, refl), refl),
+          (
+            _,
+            (_, inr (refl, refl, refl), refl),
+            (
+              _,
+              (_, inr (refl, refl), refl),
+              (
+                _,
+                (_, inr (refl, refl), refl),
+                (
+                  _,
+                  (_, inr (refl, refl, refl), refl),
+                  (
+                    _,
+                    (_, inr (refl, refl), refl),
+                    (
+                      _,
+                      (_, inr (refl, refl), refl),
+                      (
+                        _,
+                        (_, inr (refl, refl), refl),
+                        refl,
+                      ),
+                    ),
+                  ),
+                ),
+              ),
+            ),
+          ),
+        ),
+      ),
+    ),
+  ),
 )
 
 -- One surface twice: it is visible from its first time on, and its second flip gives it a new time.
@@ -109,13 +142,31 @@ one_twice_is_legal : (end : State) × Leads start one_twice end
 unfolding Leads found_from changed_at all_shown
 one_twice_is_legal = (
   _,
-  (_, (_, inr (refl, refl), refl),
-  (_, (_, inr (refl, refl), refl),
-  (_, (_, inr (refl, refl, refl), refl),
-  (_, (_, inr (refl, refl), refl),
-  (_, (_, inr (refl, refl, refl), refl),
-  (_, (_, inr (refl, refl), refl),
-  refl)))))),
+  (
+    _,
+    (_, inr (refl, refl), refl),
+    (
+      _,
+      (_, inr (refl, refl), refl),
+      (
+        _,
+        (_, inr (refl, refl, refl), refl),
+        (
+          _,
+          (_, inr (refl, refl), refl),
+          (
+            _,
+            (_, inr (refl, refl, refl), refl),
+            (
+              _,
+              (_, inr (refl, refl), refl),
+              refl,
+            ),
+          ),
+        ),
+      ),
+    ),
+  ),
 )
 
 -- A destroyed surface that is queued is shown all the same, under its dead name; it is kept until another one is shown.
@@ -137,17 +188,47 @@ destroyed_shown_is_legal : (end : State) × Leads start destroyed_shown end
 unfolding Leads found_from changed_at all_shown
 destroyed_shown_is_legal = (
   _,
-  (_, (_, inr (refl, refl), refl),
-  (_, (_, inr (refl, refl), refl),
-  (_, (_, inr (refl, refl, refl), refl),
-  (_, (_, inr (refl, refl), refl),
-  (_, (_, inr (refl, refl), refl),
-  (_, (_, inr (refl, refl, refl), refl),
-  (_, (_, inr (refl, refl), refl),
-  (_, (_, inr (refl, refl), refl),
-  (_, (_, inr (refl, refl), refl),
-  (_, (_, inr (refl, refl), refl),
-  refl)))))))))),
+  (
+    _,
+    (_, inr (refl, refl), refl),
+    (
+      _,
+      (_, inr (refl, refl), refl),
+      (
+        _,
+        (_, inr (refl, refl, refl), refl),
+        (
+          _,
+          (_, inr (refl, refl), refl),
+          (
+            _,
+            (_, inr (refl, refl), refl),
+            (
+              _,
+              (_, inr (refl, refl, refl), refl),
+              (
+                _,
+                (_, inr (refl, refl), refl),
+                (
+                  _,
+                  (_, inr (refl, refl), refl),
+                  (
+                    _,
+                    (_, inr (refl, refl), refl),
+                    (
+                      _,
+                      (_, inr (refl, refl), refl),
+                      refl,
+                    ),
+                  ),
+                ),
+              ),
+            ),
+          ),
+        ),
+      ),
+    ),
+  ),
 )
 
 -- Promises, wishes, surfaces of another device, and a preempted device.
@@ -173,21 +254,63 @@ refused_calls_are_legal : (end : State) × Leads start refused_calls end
 unfolding Leads found_from changed_at all_shown first_wish_from
 refused_calls_are_legal = (
   _,
-  (_, (_, inr (refl, refl), refl),
-  (_, (_, inr (refl, refl), refl),
-  (_, (_, inr (refl, refl), refl),
-  (_, (_, inr (refl, refl), refl),
-  (_, (_, inr (refl, refl), refl),
-  (_, (_, inr (refl, refl), refl),
-  (_, (_, inr (refl, refl), refl),
-  (_, (_, inr (refl, (refl, refl)), refl),
-  (_, (_, inr (refl, refl), refl),
-  (_, (_, inr (refl, refl), refl),
-  (_, (_, inr (refl, refl), refl),
-  (_, (_, inr (refl, refl), refl),
-  (_, (_, inr (refl, refl), refl),
-  (_, (_, inr (refl, refl), refl),
-  refl)))))))))))))),
+  (
+    _,
+    (_, inr (refl, refl), refl),
+    (
+      _,
+      (_, inr (refl, refl), refl),
+      (
+        _,
+        (_, inr (refl, refl), refl),
+        (
+          _,
+          (_, inr (refl, refl), refl),
+          (
+            _,
+            (_, inr (refl, refl), refl),
+            (
+              _,
+              (_, inr (refl, refl), refl),
+              (
+                _,
+                (_, inr (refl, refl), refl),
+                (
+                  _,
+                  (_, inr (refl, (refl, refl)), refl),
+                  (
+                    _,
+                    (_, inr (refl, refl), refl),
+                    (
+                      _,
+                      (_, inr (refl, refl), refl),
+                      (
+                        _,
+                        (_, inr (refl, refl), refl),
+                        (
+                          _,
+                          (_, inr (refl, refl), refl),
+                          (
+                            _,
+                            (_, inr (refl, refl), refl),
+                            (
+                              _,
+                              (_, inr (refl, refl), refl),
+                              refl,
+                            ),
+                          ),
+                        ),
+                      ),
+                    ),
+                  ),
+                ),
+              ),
+            ),
+          ),
+        ),
+      ),
+    ),
+  ),
 )
 
 -- the least number that no other has

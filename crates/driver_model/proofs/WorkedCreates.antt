@@ -57,20 +57,59 @@ two_devices_are_legal : IsLegal two_devices
 unfolding Leads found_from changed_at
 two_devices_are_legal = (
   _,
-  (_, (_, inr (inl (record { name = 0; content = _; is_content = refl; kind = refl; fresh = refl; tells = refl; after = refl })), refl),
-  (_, (_, inr (inl (record { name = 1; content = _; is_content = refl; kind = refl; fresh = refl; tells = refl; after = refl })), refl),
-  (_, (_, inr (refl, refl), refl),
-  (_, (_, inr (refl, refl), refl),
-  (_, (_, inl (refl, (refl, refl)), refl),
-  (_, (_, inr (inl (record { name = 2147483650; content = _; is_content = refl; kind = refl; fresh = refl; tells = refl; after = refl })), refl),
-  (_, (_, inr (inl (record { name = 2684354563; content = _; is_content = refl; kind = refl; fresh = refl; tells = refl; after = refl })), refl),
-  (_, (_, inr (refl, refl), refl),
-  (_, (_, inr (refl, refl), refl),
-  (_, (_, inr (refl, refl), refl),
-  (_, (_, inr (refl, refl), refl),
-  (_, (_, inr (refl, refl), refl),
-  (_, (_, inr (refl, refl), refl),
-  refl))))))))))))),
+  (
+    _,
+    (_, inr (inl (record { name = 0; content = _; is_content = refl; kind = refl; fresh = refl; tells = refl; after = refl })), refl),
+    (
+      _,
+      (_, inr (inl (record { name = 1; content = _; is_content = refl; kind = refl; fresh = refl; tells = refl; after = refl })), refl),
+      (
+        _,
+        (_, inr (refl, refl), refl),
+        (
+          _,
+          (_, inr (refl, refl), refl),
+          (
+            _,
+            (_, inl (refl, (refl, refl)), refl),
+            (
+              _,
+              (_, inr (inl (record { name = 2147483650; content = _; is_content = refl; kind = refl; fresh = refl; tells = refl; after = refl })), refl),
+              (
+                _,
+                (_, inr (inl (record { name = 2684354563; content = _; is_content = refl; kind = refl; fresh = refl; tells = refl; after = refl })), refl),
+                (
+                  _,
+                  (_, inr (refl, refl), refl),
+                  (
+                    _,
+                    (_, inr (refl, refl), refl),
+                    (
+                      _,
+                      (_, inr (refl, refl), refl),
+                      (
+                        _,
+                        (_, inr (refl, refl), refl),
+                        (
+                          _,
+                          (_, inr (refl, refl), refl),
+                          (
+                            _,
+                            (_, inr (refl, refl), refl),
+                            refl,
+                          ),
+                        ),
+                      ),
+                    ),
+                  ),
+                ),
+              ),
+            ),
+          ),
+        ),
+      ),
+    ),
+  ),
 )
 
 -- The part of the second device, and that of the first with a job: a mark's place is counted in the part.

@@ -10,6 +10,7 @@ use Rattle.driver_model.specs.Histories.{IsLegal, IsStateOf}
 use Rattle.driver_model.specs.Objects.{Content, DecoderObject}
 use Rattle.driver_model.specs.Parts.{name_given}
 use Rattle.driver_model.specs.Presented.{is_idle_at, queues_of}
+use Rattle.driver_model.specs.Sound.{AreSound}
 use Rattle.driver_model.specs.States.{State}
 use Rattle.driver_model.specs.Steps.{Step}
 use Rattle.driver_model.specs.Waits.{Waits}
@@ -85,6 +86,10 @@ abbrev pub IdleSurfacesAreNotNamed : Type 0
 IdleSurfacesAreNotNamed =
     (s : State) (surface place : ℕ) (queue : Queue ℕ)
     → is_idle_at s surface ≡ true → slice_get (queues_of s) place ≡ Some queue → Names queue surface → ⊥
+
+-- In the state of a legal history each queue is sound: it names output surfaces of its own device, and none once it is destroyed.
+abbrev pub QueuesAreSound : Type 0
+QueuesAreSound = (history : List Item) (s : State) → IsStateOf history s → AreSound s.objects
 
 -- Each front of a legal history is legal.
 abbrev pub FrontsAreLegal : Type 0

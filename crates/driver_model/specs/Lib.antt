@@ -20,5 +20,5 @@ pub mod Passes
 pub mod Parts
 pub mod ShownPictures
 pub mod FlipText
-pub mod Laws
 pub mod Sound
+pub mod Laws

@@ -1,5 +1,5 @@
 // What follows from the definitions.
-ghost use Rattle.driver_model.specs.Laws.{FrontsAreLegal, HistoriesHaveSizes, HistoriesLeadToOneState, IdleSurfacesAreNotNamed, NamesAreGiven, NamesAreGivenOnce, RefusalsAreOne, RefusalsLeaveTheState, StepsLeaveOneState, WaitingCallsAreNotAnswered};
+ghost use Rattle.driver_model.specs.Laws.{FrontsAreLegal, HistoriesHaveSizes, HistoriesLeadToOneState, IdleSurfacesAreNotNamed, NamesAreGiven, NamesAreGivenOnce, QueuesAreSound, RefusalsAreOne, RefusalsLeaveTheState, StepsLeaveOneState, WaitingCallsAreNotAnswered};
 
 /// The state behind a call is settled by the state before it, the caller, the call and its reply.
 pub fn steps_leave_one_state()
@@ -35,4 +35,10 @@ pub fn waiting_calls_are_not_answered()
 /// No queue has an entry of an idle surface, or shows it.
 pub fn idle_surfaces_are_not_named()
     ensures { IdleSurfacesAreNotNamed }
+{}
+
+/// Where a legal history leads, each queue names output surfaces of its own device, at most 64 entries wait
+/// in it, and a destroyed one is empty.
+pub fn queues_are_sound()
+    ensures { QueuesAreSound }
 {}

@@ -1,23 +1,20 @@
 -- What follows for whole histories.
-use Rattle.std.proofs.Common.{◌≡◌, ◌≢◌, ◌⊎◌, inl, inr, ℕ, zero, suc, ◌+◌, ◌<◌, ◌≤◌, ◌==◌, Bool, true, false, not, ◌||◌, List, [], ◌∷◌, ◌++◌, length, map, get_or, slice_get, Option, Some, None, Result, Ok, Err, refl, ap, sym, ◌∙◌, subst, arith, AllPairs, Contains, filter_map}
+use Rattle.std.proofs.Common.{◌≡◌, ◌≢◌, inl, inr, ℕ, zero, suc, ◌<◌, ◌==◌, Bool, true, false, not, ◌||◌, List, [], ◌∷◌, ◌++◌, length, map, get_or, slice_get, Option, Some, None, Err, refl, ap, sym, ◌∙◌, subst, arith, AllPairs, filter_map}
 use Rattle.std.proofs.lemmas.List.{append-nil, append_assoc}
-use Rattle.std.proofs.lemmas.List.Folds.{list_any_at}
 use Rattle.std.proofs.Math.ListN.{get_or-append, length-append}
 use Rattle.std.proofs.Math.Seq.{get_or-append_seam}
 use Rattle.std.proofs.lemmas.Bool.{cases_lt, eq-eqb}
 use Rattle.std.specs.List.{cons_option, list_any}
 use Rattle.std.specs.Option.{option_map_or, option_to_list}
-use Rattle.present_queue.specs.Queue.{Names, Queue, Queued, holds, shows}
-use Rattle.vd_status.specs.declared.refusal.Refusal.{Refusal}
+use Rattle.present_queue.specs.Queue.{Queued, holds, shows}
 use Rattle.vd_status.specs.declared.refusal.Refusal.TheVariants.{OutOfMemory}
 use Rattle.driver_model.specs.Answers.{Reply}
-use Rattle.driver_model.specs.Histories.{Happens, IsLegal, IsStateOf, Leads}
-use Rattle.driver_model.specs.Laws.{FrontsAreLegal, HasSizes, HistoriesHaveSizes, HistoriesLeadToOneState, IdleSurfacesAreNotNamed, NamesAreGiven, NamesAreGivenOnce, RefusalsAreOne, RefusalsLeaveTheState, StepsLeaveOneState, given_by, is_of_bitstream}
+use Rattle.driver_model.specs.Histories.{Happens, Leads}
+use Rattle.driver_model.specs.Laws.{FrontsAreLegal, HasSizes, HistoriesHaveSizes, HistoriesLeadToOneState, IdleSurfacesAreNotNamed, NamesAreGiven, NamesAreGivenOnce, RefusalsAreOne, RefusalsLeaveTheState, StepsLeaveOneState, given_by}
 use Rattle.driver_model.specs.Objects.{Object}
-use Rattle.driver_model.specs.Parts.{name_given}
-use Rattle.driver_model.specs.Presented.{is_idle_at, is_queued_at, is_visible_at, queues_of}
+use Rattle.driver_model.specs.Presented.{is_queued_at, is_visible_at, queues_of}
 use Rattle.driver_model.specs.States.{State, counted, empty_state, is_given}
-use Rattle.driver_model.specs.Steps.{Does, Step}
+use Rattle.driver_model.specs.Steps.{Step}
 use Rattle.driver_model.specs.declared.calls.Call.{Call}
 use Rattle.driver_model.specs.declared.items.Item.{Item}
 use Rattle.driver_model.specs.declared.items.Item.TheVariants.{Called, Ended}

@@ -1,5 +1,5 @@
 -- What one step does to the objects' names and to the decoders' sizes, and what a refusal leaves.
-use Rattle.std.proofs.Common.{◌≡◌, ◌⊎◌, inl, inr, ℕ, nat_lt, Bool, true, false, not, ◌&&◌, if◌then◌else◌, List, [], ◌∷◌, ◌++◌, length, map, Option, Some, None, Result, Ok, Err, MatchOption, refl, ap, sym, ◌∙◌, subst}
+use Rattle.std.proofs.Common.{◌≡◌, ◌⊎◌, inl, inr, ℕ, nat_lt, Bool, true, false, not, ◌&&◌, if◌then◌else◌, List, ◌++◌, length, map, Option, Some, None, Ok, Err, MatchOption, refl, ap, sym, ◌∙◌, subst}
 use Rattle.std.proofs.lemmas.Bool.{leb-true}
 use Rattle.std.proofs.lemmas.List.{append-nil}
 use Rattle.std.specs.Option.{option_to_list}
@@ -17,13 +17,13 @@ use Rattle.driver_model.specs.Creates.{Creates, IsNewVideo, Makes, MayBeFull, ha
 use Rattle.driver_model.specs.Jobs.{reply_of}
 use Rattle.driver_model.specs.Laws.{HasSize, HasSizes, is_of_bitstream}
 use Rattle.driver_model.specs.Mixes.{Mixes, Mixing, mix}
-use Rattle.driver_model.specs.Objects.{Content, Device, DeviceObject, VideoObject, OutputObject, DecoderObject, MixerObject, QueueObject, VideoSurface, Object, as_device}
+use Rattle.driver_model.specs.Objects.{Content, Device, DeviceObject, VideoSurface, Object, as_device}
 use Rattle.driver_model.specs.Parts.{name_given}
 use Rattle.driver_model.specs.Queues as queues
 use Rattle.driver_model.specs.Refusals.{Looked, ◌>>=◌, ◌>>◌, first_handle, refused_if}
-use Rattle.driver_model.specs.Renders.{Decodes, Render, Rendering, decoded, render}
+use Rattle.driver_model.specs.Renders.{Decodes, Rendering, decoded, render}
 use Rattle.driver_model.specs.Sizes.{is_profile, is_within_limits, size_for, size_of_sides}
-use Rattle.driver_model.specs.States.{State, Found, destroyed, destroyed_with, is_given, named, with_content, with_note, with_object}
+use Rattle.driver_model.specs.States.{State, Found, destroyed, destroyed_with, is_given, named, with_content, with_note}
 use Rattle.driver_model.specs.Steps.{Does}
 use Rattle.driver_model.specs.Surfaces as surfaces
 use Rattle.driver_model.specs.Wishes.{first_wish}
@@ -32,7 +32,7 @@ use Rattle.driver_model.specs.declared.calls.Call.TheVariants as call
 use Rattle.driver_model.specs.declared.replies.Answer.{Answer}
 use Rattle.driver_model.specs.declared.replies.Answer.TheVariants.{Done, Holds, Name}
 use Rattle.driver_model.specs.declared.numbers.TheConstants.{MAX_REFERENCES}
-use Rattle.driver_model.proofs.Changes.{Sizes, Sizes-all_shown, Sizes-append, Sizes-changed, Sizes-destroyed, names, names-all_shown, names-append, names-changed, names-destroyed}
+use Rattle.driver_model.proofs.Changes.{Sizes-all_shown, Sizes-append, Sizes-changed, Sizes-destroyed, names, names-all_shown, names-append, names-changed, names-destroyed}
 use Rattle.driver_model.proofs.Looks.{err_not_ok, then_ok, unless_ok}
 use Rattle.driver_model.proofs.SameReplies.{err_one, ok_not_err}
 

@@ -1,5 +1,5 @@
 -- An object is of one kind.
-use Rattle.std.proofs.Common.{◌≡◌, Bool, true, false, Option, Some, None, IsSome, refl, sym, ◌∙◌}
+use Rattle.std.proofs.Common.{◌≡◌, Bool, true, false, Option, Some, None, IsSome, refl}
 use Rattle.driver_model.specs.Objects.{Content, DeviceObject, VideoObject, OutputObject, DecoderObject, MixerObject, QueueObject, Device, VideoSurface, OutputSurface, Decoder, VideoMixer, PresentationQueue, as_decoder, as_device, as_mixer, as_output, as_queue, as_video}
 
 no_value : {T : Type 0} (value : T) → (let o : Option T = None in o ≡ Some value) → ⊥

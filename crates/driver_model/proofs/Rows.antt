@@ -1,9 +1,9 @@
 -- How a row of the step is made: of what the call has found, or of its refusal.
-use Rattle.std.proofs.Common.{◌≡◌, ℕ, Bool, true, false, if◌then◌else◌, Option, Some, None, Result, Ok, Err, refl, ap, sym, ◌∙◌, subst}
+use Rattle.std.proofs.Common.{◌≡◌, ℕ, Bool, true, false, if◌then◌else◌, Option, Some, None, Ok, Err, ap, sym, ◌∙◌, subst}
 use Rattle.vd_status.specs.declared.refusal.Refusal.{Refusal}
-use Rattle.vd_status.specs.declared.refusal.Refusal.TheVariants.{DeviceMismatch, InvalidHandle, Preempted}
+use Rattle.vd_status.specs.declared.refusal.Refusal.TheVariants.{InvalidHandle, Preempted}
 use Rattle.driver_model.specs.Answers.{Goes, IsRefused, Reply}
-use Rattle.driver_model.specs.Refusals.{Looked, ◌>>=◌, ◌>>◌, first_handle, further_handle, in_use, refused_if}
+use Rattle.driver_model.specs.Refusals.{Looked, ◌>>=◌, ◌>>◌, in_use, refused_if}
 use Rattle.driver_model.specs.States.{State, Found, is_preempted}
 
 module _ (old : State) (reply : Reply) (new : State) where

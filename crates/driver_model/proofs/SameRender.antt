@@ -1,7 +1,7 @@
 -- Two renders of one submission from one state.
-use Rattle.std.proofs.Common.{◌≡◌, ◌≢◌, ℕ, zero, suc, ◌+◌, ◌<◌, ◌≤◌, ◌==◌, Bool, true, false, not, cond, List, [], ◌∷◌, length, get_or, Option, Some, None, Result, Ok, Err, refl, ap, sym, ◌∙◌, subst, arith}
+use Rattle.std.proofs.Common.{◌≡◌, ℕ, zero, suc, ◌<◌, ◌≤◌, ◌==◌, Bool, true, false, not, List, [], ◌∷◌, length, get_or, Option, Some, None, Ok, Err, refl, ap, sym, ◌∙◌, subst, arith}
 use Rattle.std.proofs.lemmas.Bool.Decides.{nat_tests}
-use Rattle.std.specs.List.{AllByRecursion, position, position_or_len, prefix_len}
+use Rattle.std.specs.List.{position, position_or_len}
 use Rattle.cb_types.specs.AcceptedInfo.{IsAcceptedBySome, accepted_fields}
 use Rattle.cb_types.specs.SizeMbs.{IsWithinLimits}
 use Rattle.cb_types.specs.declared.picture_info.PictureInfo.{PictureInfo}
@@ -12,7 +12,6 @@ use Rattle.decoder_render.specs.declared.outcome.Outcome.TheVariants as outcome
 use Rattle.decoder_render.proofs.OneOutcome.{outcome_one, whole_one}
 use Rattle.decoder_render.proofs.OneReading.{payloads_one}
 use Rattle.vd_plane.specs.declared.picture.Picture.{Picture}
-use Rattle.vd_status.specs.declared.refusal.Refusal.{Refusal}
 use Rattle.vd_status.specs.declared.refusal.Refusal.TheVariants.{BadInfo, BadSize, SliceCount, TargetIsReference}
 use Rattle.driver_model.specs.Answers.{Goes, Reply}
 use Rattle.driver_model.specs.Jobs.{reply_of}

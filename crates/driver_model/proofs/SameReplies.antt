@@ -1,5 +1,5 @@
 -- Two steps of one call from one state, and how a row of the step says what both have in common.
-use Rattle.std.proofs.Common.{◌≡◌, Ok, Err, Result, MatchResult, sym, ◌∙◌}
+use Rattle.std.proofs.Common.{◌≡◌, Ok, Err, sym, ◌∙◌}
 use Rattle.vd_status.specs.declared.refusal.Refusal.{Refusal}
 use Rattle.driver_model.specs.Answers.{Goes, IsRefused, Reply}
 use Rattle.driver_model.specs.Refusals.{Looked}

@@ -1,12 +1,10 @@
 -- Two steps of one call from one state: with one reply they leave one state, and their refusals are one.
-use Rattle.std.proofs.Common.{◌≡◌, ◌⊎◌, inl, inr, ℕ, Bool, true, false, List, [], ◌∷◌, ◌++◌, length, Option, Some, None, Result, Ok, Err, MatchOption, refl, ap, sym, ◌∙◌, subst}
+use Rattle.std.proofs.Common.{◌≡◌, ◌⊎◌, inl, inr, ℕ, Bool, true, false, List, length, Option, Some, None, Ok, MatchOption, ap, sym, ◌∙◌}
 use Rattle.cb_types.specs.declared.size.SizeMbs.{SizeMbs}
 use Rattle.bits_io.specs.ByteOrder.{bytes_of}
-use Rattle.bits_io.specs.Laws.{PutAfterGet}
 use Rattle.vd_plane.specs.Picture.{SameSize}
 use Rattle.vd_plane.specs.declared.picture.Picture.{Picture}
-use Rattle.vd_status.specs.declared.refusal.Refusal.{Refusal}
-use Rattle.driver_model.specs.Answers.{Goes, IsRefused, Reply, Tells}
+use Rattle.driver_model.specs.Answers.{Goes, Reply, Tells}
 use Rattle.driver_model.specs.Clock as clock
 use Rattle.driver_model.specs.Creates.{Creates, IsNewVideo, Makes, MayBeFull, handles_full, new_device, new_output, new_decoder, new_mixer, new_queue, device_create, video_create, output_create, decoder_create, mixer_create, queue_create}
 use Rattle.driver_model.specs.Laws.{HasSizes}
@@ -29,7 +27,7 @@ use Rattle.driver_model.specs.declared.replies.Answer.{Answer}
 use Rattle.driver_model.specs.declared.replies.Answer.TheVariants.{Done, Holds, Name}
 use Rattle.driver_model.proofs.Pictures.{picture_one, zeros_one}
 use Rattle.driver_model.proofs.SameRender.{render_two}
-use Rattle.driver_model.proofs.SameReplies.{TwoSteps, both_ok, both_refused, err_and_ok, goes_two, ok_and_err, ok_one}
+use Rattle.driver_model.proofs.SameReplies.{TwoSteps, both_ok, both_refused, err_and_ok, goes_two, ok_and_err}
 
 name_one : (a b : ℕ) → (let r : Reply = Ok (Name a) in r ≡ Ok (Name b)) → a ≡ b
 name_one a b h = cc

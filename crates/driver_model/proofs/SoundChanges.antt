@@ -1,7 +1,7 @@
 -- Changes of objects that leave all queues sound.
-use Rattle.std.proofs.Common.{◌≡◌, ◌⊎◌, inl, inr, ℕ, zero, suc, ◌+◌, ◌≤◌, Bool, true, false, List, [], ◌∷◌, ◌++◌, length, map, slice_get, Option, Some, None, IsSome, MatchOption, refl, ap, sym, ◌∙◌, subst, arith}
-use Rattle.present_queue.specs.Queue.{Names, Queue}
-use Rattle.driver_model.specs.Objects.{Content, DeviceObject, VideoObject, OutputObject, DecoderObject, MixerObject, QueueObject, Object, as_output}
+use Rattle.std.proofs.Common.{◌≡◌, ◌⊎◌, inl, inr, ℕ, zero, suc, Bool, List, [], ◌∷◌, slice_get, Option, Some, None, IsSome, MatchOption, refl, ap, sym, ◌∙◌, subst}
+use Rattle.present_queue.specs.Queue.{Queue}
+use Rattle.driver_model.specs.Objects.{Object, as_output}
 use Rattle.driver_model.specs.Presented.{queue_in}
 use Rattle.driver_model.specs.Sound.{AreSound, IsOutputOf, IsSoundObject, IsSoundQueue}
 use Rattle.driver_model.specs.States.{changed_at}

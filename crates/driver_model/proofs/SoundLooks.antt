@@ -1,38 +1,19 @@
 -- Each step leaves the queues sound.
-use Rattle.std.proofs.Common.{◌≡◌, ◌⊎◌, inl, inr, ℕ, ◌==◌, nat_le, Bool, true, false, not, if◌then◌else◌, List, [], ◌∷◌, ◌++◌, length, map, slice_get, Option, Some, None, Result, Ok, Err, IsSome, MatchOption, refl, ap, sym, ◌∙◌, subst}
+use Rattle.std.proofs.Common.{◌≡◌, ℕ, ◌==◌, nat_le, Bool, true, false, not, if◌then◌else◌, slice_get, Option, Some, None, Ok, Err, refl, ap, subst}
 use Rattle.std.proofs.lemmas.Bool.{eqb-true}
-use Rattle.std.specs.Option.{ok_or}
 use Rattle.bits_io.specs.ByteOrder.{byte_count}
-use Rattle.cb_types.specs.declared.picture_info.PictureInfo.{PictureInfo}
-use Rattle.decoder_render.specs.declared.outcome.Outcome.{Outcome}
-use Rattle.decoder_render.specs.declared.outcome.Outcome.TheVariants as outcome
-use Rattle.present_queue.specs.Queue.{Queued, answer_to_display, displayed, promised}
-use Rattle.vd_plane.specs.declared.picture.Picture.{Picture}
-use Rattle.vd_status.specs.declared.refusal.Refusal.{Refusal}
-use Rattle.vd_status.specs.declared.refusal.Refusal.TheVariants.{BadSize, BadStructure, BadYCbCr, DeviceMismatch, InvalidHandle, TimeNotAfter}
-use Rattle.driver_model.specs.Answers.{Goes, Leaves, Reply, Tells}
+use Rattle.present_queue.specs.Queue.{answer_to_display}
+use Rattle.vd_status.specs.declared.refusal.Refusal.TheVariants.{BadSize, BadYCbCr, DeviceMismatch, InvalidHandle, TimeNotAfter}
 use Rattle.driver_model.specs.Clock as clock
-use Rattle.driver_model.specs.Creates.{Creates, IsNewVideo, Makes, MayBeFull, decoder_create, device_create, mixer_create, new_decoder, new_device, new_mixer, new_output, new_queue, output_create, queue_create, video_create}
-use Rattle.driver_model.specs.Mixes.{Mixes, Mixing, mix}
-use Rattle.driver_model.specs.Objects.{Content, DeviceObject, VideoObject, OutputObject, DecoderObject, MixerObject, QueueObject, Device, VideoSurface, OutputSurface, Decoder, VideoMixer, Object, PresentationQueue, as_decoder, as_device, as_mixer, as_output, as_queue, as_video}
+use Rattle.driver_model.specs.Objects.{Content, Device, VideoSurface, OutputSurface, Object, PresentationQueue, as_device, as_output, as_queue, as_video}
 use Rattle.driver_model.specs.Queues as queues
 use Rattle.driver_model.specs.Queues.{Presented, presented, queue_display}
 use Rattle.driver_model.specs.Refusals.{Looked, ◌>>=◌, ◌>>◌, first_handle, further_handle, refused_if}
-use Rattle.driver_model.specs.Renders.{Decodes, Render, Rendering, decoded, references, render, rendering}
 use Rattle.driver_model.specs.Sizes.{is_ycbcr_format, pixel_bytes}
-use Rattle.driver_model.specs.Sound.{AreSound, IsOutputOf, IsSoundObject, IsSoundQueue}
-use Rattle.driver_model.specs.States.{State, Found, destroyed, named, with_content, with_object}
-use Rattle.driver_model.specs.Steps.{Does}
+use Rattle.driver_model.specs.States.{State, Found, named}
 use Rattle.driver_model.specs.Surfaces as surfaces
-use Rattle.driver_model.specs.Wishes.{first_wish}
-use Rattle.driver_model.specs.declared.calls.Call.{Call}
-use Rattle.driver_model.specs.declared.calls.Call.TheVariants as call
-use Rattle.driver_model.specs.declared.replies.Answer.TheVariants.{Holds}
 use Rattle.driver_model.proofs.Looks.{err_not_ok, first_handle-Ok, ok_is, then_ok, unless_ok}
-use Rattle.driver_model.proofs.Named.{IsNamed, named-Some}
-use Rattle.driver_model.proofs.PlainKinds.{IsPlain, decoder_is_plain, device_is_plain, mixer_is_plain, output_is_no_queue, queue_is_no_output, video_is_plain}
-use Rattle.driver_model.proofs.SoundRows.{sound_content, sound_destroyed, sound_emptied, sound_plain, sound_queue}
-use Rattle.driver_model.proofs.SoundTicks.{displayed_is_sound, empty_is_sound, promised_is_sound, sound_all_shown, sound_end, sound_more}
+use Rattle.driver_model.proofs.Named.{named-Some}
 
 -- ---- what the looks have found
 

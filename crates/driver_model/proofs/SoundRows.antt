@@ -1,17 +1,15 @@
 -- What a step leaves of sound queues, by the kind of change.
-use Rattle.std.proofs.Common.{◌≡◌, ◌⊎◌, inl, inr, ℕ, zero, suc, ◌+◌, ◌==◌, ◌≤◌, ◌<◌, Bool, true, false, if◌then◌else◌, List, [], ◌∷◌, ◌++◌, length, map, drop, slice_get, Option, Some, None, IsSome, MatchOption, refl, ap, sym, ◌∙◌, subst, arith}
+use Rattle.std.proofs.Common.{◌≡◌, inl, inr, ℕ, Bool, true, false, List, [], slice_get, Option, Some, None, IsSome, MatchOption, refl, ap, sym, ◌∙◌, subst, arith}
 use Rattle.std.specs.Option.{option_map}
-use Rattle.present_queue.proofs.NameLemmas.{Names-displayed, Names-empty, Names-promised, Names-ticked}
-use Rattle.present_queue.specs.Queue.{Names, Queue, Queued, displayed, empty_queue, promised, ticked, ticked_by}
-use Rattle.driver_model.specs.Clock.{Due, all_shown, destroyed_on, let_go, shown, with_flip, with_tick}
-use Rattle.driver_model.specs.Objects.{Content, DeviceObject, VideoObject, OutputObject, DecoderObject, MixerObject, QueueObject, Object, PresentationQueue, as_output, as_queue}
+use Rattle.present_queue.specs.Queue.{Names, Queue}
+use Rattle.driver_model.specs.Objects.{Content, QueueObject, Object, PresentationQueue, as_output, as_queue}
 use Rattle.driver_model.specs.Presented.{queue_in}
 use Rattle.driver_model.specs.Queues.{emptied}
-use Rattle.driver_model.specs.Sound.{AreSound, IsOutputOf, IsSoundObject, IsSoundQueue}
-use Rattle.driver_model.specs.States.{State, changed_at, destroyed, destroyed_with, with_content, with_object}
+use Rattle.driver_model.specs.Sound.{AreSound, IsSoundObject, IsSoundQueue}
+use Rattle.driver_model.specs.States.{State, destroyed, destroyed_with, with_content}
 use Rattle.driver_model.proofs.Named.{object_is}
 use Rattle.driver_model.proofs.PlainKinds.{IsPlain}
-use Rattle.driver_model.proofs.SoundChanges.{Follows, sound_changed_at, sound_follows}
+use Rattle.driver_model.proofs.SoundChanges.{sound_changed_at}
 
 -- an object that is no queue is sound whatever else
 no_queue_is_sound : (objects : List Object) (object : Object) → as_queue object.content ≡ None → IsSoundObject objects object

@@ -1,26 +1,20 @@
 -- Each step leaves the queues sound.
-use Rattle.std.proofs.Common.{◌≡◌, ◌⊎◌, inl, inr, ℕ, ◌==◌, nat_le, Bool, true, false, not, if◌then◌else◌, List, [], ◌∷◌, ◌++◌, length, map, slice_get, Option, Some, None, Result, Ok, Err, IsSome, MatchOption, refl, ap, sym, ◌∙◌, subst}
-use Rattle.std.proofs.lemmas.Bool.{eqb-true}
-use Rattle.std.specs.Option.{is_some, ok_or}
-use Rattle.bits_io.specs.ByteOrder.{byte_count}
-use Rattle.cb_types.specs.declared.picture_info.PictureInfo.{PictureInfo}
+use Rattle.std.proofs.Common.{◌≡◌, inl, inr, ℕ, true, List, [], ◌∷◌, ◌++◌, length, Option, Some, None, Ok, Err, MatchOption, refl, ap, sym, ◌∙◌, subst}
+use Rattle.std.specs.Option.{is_some}
 use Rattle.decoder_render.specs.declared.outcome.Outcome.{Outcome}
 use Rattle.decoder_render.specs.declared.outcome.Outcome.TheVariants as outcome
 use Rattle.present_queue.specs.Queue.{Queued, answer_to_display, displayed, promised}
 use Rattle.vd_plane.specs.declared.picture.Picture.{Picture}
-use Rattle.vd_status.specs.declared.refusal.Refusal.{Refusal}
-use Rattle.vd_status.specs.declared.refusal.Refusal.TheVariants.{BadSize, BadStructure, BadYCbCr, DeviceMismatch, InvalidHandle, TimeNotAfter}
-use Rattle.driver_model.specs.Answers.{Goes, Leaves, Reply, Tells}
+use Rattle.driver_model.specs.Answers.{Goes, Reply, Tells}
 use Rattle.driver_model.specs.Clock as clock
-use Rattle.driver_model.specs.Creates.{Creates, IsNewVideo, Makes, MayBeFull, decoder_create, device_create, mixer_create, new_decoder, new_device, new_mixer, new_output, new_queue, output_create, queue_create, video_create}
-use Rattle.driver_model.specs.Mixes.{Mixes, Mixing, mix}
-use Rattle.driver_model.specs.Objects.{Content, DeviceObject, VideoObject, OutputObject, DecoderObject, MixerObject, QueueObject, Device, VideoSurface, OutputSurface, Decoder, VideoMixer, Object, PresentationQueue, as_decoder, as_device, as_mixer, as_output, as_queue, as_video}
+use Rattle.driver_model.specs.Creates.{Creates, IsNewVideo, decoder_create, device_create, mixer_create, new_decoder, new_device, new_mixer, new_output, new_queue, output_create, queue_create, video_create}
+use Rattle.driver_model.specs.Mixes.{mix}
+use Rattle.driver_model.specs.Objects.{Content, DeviceObject, VideoObject, OutputObject, MixerObject, Device, VideoSurface, OutputSurface, Decoder, VideoMixer, Object, PresentationQueue, as_decoder, as_device, as_mixer, as_output, as_queue, as_video}
 use Rattle.driver_model.specs.Queues as queues
 use Rattle.driver_model.specs.Queues.{Presented, presented, queue_display}
-use Rattle.driver_model.specs.Refusals.{Looked, ◌>>=◌, ◌>>◌, first_handle, further_handle, refused_if}
-use Rattle.driver_model.specs.Renders.{Decodes, Render, Rendering, decoded, references, render, rendering}
-use Rattle.driver_model.specs.Sizes.{is_ycbcr_format, pixel_bytes}
-use Rattle.driver_model.specs.Sound.{AreSound, IsOutputOf, IsSoundObject, IsSoundQueue}
+use Rattle.driver_model.specs.Refusals.{Looked, first_handle}
+use Rattle.driver_model.specs.Renders.{Rendering, decoded, render}
+use Rattle.driver_model.specs.Sound.{AreSound, IsOutputOf, IsSoundObject}
 use Rattle.driver_model.specs.States.{State, Found, destroyed, named, with_content, with_object}
 use Rattle.driver_model.specs.Steps.{Does}
 use Rattle.driver_model.specs.Surfaces as surfaces
@@ -28,9 +22,7 @@ use Rattle.driver_model.specs.Wishes.{first_wish}
 use Rattle.driver_model.specs.declared.calls.Call.{Call}
 use Rattle.driver_model.specs.declared.calls.Call.TheVariants as call
 use Rattle.driver_model.specs.declared.replies.Answer.TheVariants.{Holds}
-use Rattle.driver_model.proofs.Looks.{err_not_ok, first_handle-Ok, ok_is, then_ok, unless_ok}
-use Rattle.driver_model.proofs.Named.{IsNamed, named-Some}
-use Rattle.driver_model.proofs.PlainKinds.{IsPlain, decoder_is_plain, device_is_plain, mixer_is_plain, output_is_no_queue, queue_is_no_output, video_is_plain}
+use Rattle.driver_model.proofs.PlainKinds.{decoder_is_plain, device_is_plain, mixer_is_plain, output_is_no_queue, queue_is_no_output, video_is_plain}
 use Rattle.driver_model.proofs.SoundRows.{sound_content, sound_destroyed, sound_emptied, sound_plain, sound_queue}
 use Rattle.driver_model.proofs.SoundTicks.{displayed_is_sound, empty_is_sound, promised_is_sound, sound_all_shown, sound_end, sound_more}
 use Rattle.driver_model.specs.Histories.{Happens, IsStateOf, Leads}
@@ -40,7 +32,7 @@ use Rattle.driver_model.specs.declared.items.Item.{Item}
 use Rattle.driver_model.specs.declared.items.Item.TheVariants.{Called, Ended}
 use Rattle.driver_model.proofs.SoundChanges.{nothing_there}
 use Rattle.driver_model.proofs.SoundJobs.{mix_stands, render_stands}
-use Rattle.driver_model.proofs.SoundLooks.{Stands, advance_stands, display_stands, first_stands, output_bits_stands, presented_stand, video_bits_stands}
+use Rattle.driver_model.proofs.SoundLooks.{Stands, advance_stands, display_stands, first_stands, output_bits_stands, video_bits_stands}
 
 module _ (s : State) where
   -- a surface, a mixer or a device has another content

@@ -1,13 +1,12 @@
 -- Displays, new objects, the end of a device and ticks leave the queues sound.
-use Rattle.std.proofs.Common.{◌≡◌, ◌⊎◌, inl, inr, ℕ, zero, suc, ◌+◌, ◌==◌, ◌≤◌, ◌<◌, nat_le, nat_lt, Bool, true, false, if◌then◌else◌, cond, List, [], ◌∷◌, ◌++◌, length, map, drop, slice_get, Option, Some, None, Result, Ok, Err, IsSome, MatchOption, refl, ap, sym, ◌∙◌, subst, arith}
+use Rattle.std.proofs.Common.{◌≡◌, ◌⊎◌, inl, inr, ℕ, zero, suc, ◌==◌, ◌≤◌, ◌<◌, nat_le, nat_lt, Bool, true, false, if◌then◌else◌, List, [], ◌∷◌, ◌++◌, length, map, slice_get, Option, Some, None, Ok, Err, IsSome, refl, ap, sym, ◌∙◌, subst, arith}
 use Rattle.std.proofs.Math.ListN.{length-append}
 use Rattle.std.proofs.lemmas.Bool.{cases_lt, eq-eqb}
 use Rattle.present_queue.proofs.NameLemmas.{Names-displayed, Names-empty, Names-promised, Names-ticked}
-use Rattle.present_queue.specs.Queue.{Names, Queue, Queued, answer_to_display, displayed, empty_queue, first_due, promised, ticked, ticked_by}
+use Rattle.present_queue.specs.Queue.{Names, Queue, Queued, answer_to_display, displayed, empty_queue, promised, ticked, ticked_by}
 use Rattle.vd_status.specs.declared.refusal.Refusal.TheVariants.{EarlierThanPromise, QueueFull}
 use Rattle.driver_model.specs.Clock.{Due, all_shown, destroyed_on, let_go, shown, with_flip, with_tick}
-use Rattle.driver_model.specs.Objects.{Content, DeviceObject, VideoObject, OutputObject, DecoderObject, MixerObject, QueueObject, Object, PresentationQueue, as_output, as_queue}
-use Rattle.driver_model.specs.Refusals.{Looked}
+use Rattle.driver_model.specs.Objects.{Content, DeviceObject, VideoObject, OutputObject, DecoderObject, MixerObject, QueueObject, Object, as_output}
 use Rattle.driver_model.specs.Sound.{AreSound, IsOutputOf, IsSoundObject, IsSoundQueue}
 use Rattle.driver_model.specs.States.{State, changed_at, with_object}
 use Rattle.driver_model.proofs.Looks.{err_not_ok}

@@ -1,7 +1,6 @@
 -- A call that waits isn't answered.
-use Rattle.std.proofs.Common.{◌≡◌, ◌⊎◌, inl, inr, ℕ, Bool, true, false, not, List, length, Option, Some, None, Result, Ok, Err, MatchOption, is_none, refl, ap, sym, ◌∙◌, subst}
+use Rattle.std.proofs.Common.{◌≡◌, inl, inr, ℕ, Bool, true, false, not, List, length, Option, Some, None, Ok, Err, MatchOption, is_none, refl, ap, sym, ◌∙◌, subst}
 use Rattle.decoder_render.proofs.OneReading.{payloads_one}
-use Rattle.vd_status.specs.declared.refusal.Refusal.TheVariants.{OutOfMemory}
 use Rattle.driver_model.specs.Answers.{Goes, Reply, Tells}
 use Rattle.driver_model.specs.Clock.{advance, is_tick_held}
 use Rattle.driver_model.specs.Laws.{WaitingCallsAreNotAnswered}
@@ -9,9 +8,9 @@ use Rattle.driver_model.specs.Mixes.{is_mix_held, mix}
 use Rattle.driver_model.specs.Presented.{is_idle_at}
 use Rattle.driver_model.specs.Queues.{presented}
 use Rattle.driver_model.specs.Refusals.{Looked}
-use Rattle.driver_model.specs.Renders.{Rendering, is_render_held, render}
+use Rattle.driver_model.specs.Renders.{is_render_held, render}
 use Rattle.driver_model.specs.States.{State, is_out}
-use Rattle.driver_model.specs.Steps.{Does, Step}
+use Rattle.driver_model.specs.Steps.{Does}
 use Rattle.driver_model.specs.Surfaces.{output_bits, video_bits}
 use Rattle.driver_model.specs.Waits.{FoundAnd, Waits}
 use Rattle.driver_model.specs.Wishes.{first_wish}

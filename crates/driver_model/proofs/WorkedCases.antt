@@ -1,19 +1,20 @@
 -- Worked cases: short histories, and what each call in them answers. Each is proved by computing.
-use Rattle.std.proofs.Common.{◌≡◌, ◌⊎◌, inl, inr, ℕ, ◌*◌, ◌^◌, true, false, List, [], ◌∷◌, Some, None, Ok, Err, refl}
+use Rattle.std.proofs.Common.{◌≡◌, inr, ℕ, true, false, List, [], ◌∷◌, Some, None, Ok, Err, refl}
+use Rattle.decoder_render.specs.declared.outcome.Outcome.TheVariants as outcome
 use Rattle.present_queue.specs.Queue.{empty_queue}
 use Rattle.vd_status.specs.declared.refusal.Refusal.TheVariants.{DeviceMismatch, EarlierThanPromise, InvalidHandle, Preempted, TimeNotAfter}
 use Rattle.driver_model.specs.Answers.{Reply}
 use Rattle.driver_model.specs.Clock.{all_shown}
 use Rattle.driver_model.specs.Histories.{Happens, Leads}
 use Rattle.driver_model.specs.Objects.{DeviceObject, OutputObject, QueueObject, Object}
-use Rattle.driver_model.specs.Parts.{part, part_from}
 use Rattle.driver_model.specs.States.{State, changed_at, found_from, free_number, free_number_from}
+use Rattle.driver_model.specs.Waits.{Waits}
 use Rattle.driver_model.specs.Wishes.{first_wish_from}
 use Rattle.driver_model.specs.declared.calls.Call.{Call}
 use Rattle.driver_model.specs.declared.calls.Call.TheVariants as call
 use Rattle.driver_model.specs.declared.calls.Wish.TheVariants as wish
 use Rattle.driver_model.specs.declared.items.Item.{Item}
-use Rattle.driver_model.specs.declared.items.Item.TheVariants.{Called}
+use Rattle.driver_model.specs.declared.items.Item.TheVariants.{Called, Ended}
 use Rattle.driver_model.specs.declared.replies.Answer.TheVariants.{Counts, Done, Flips, Holds, Status, Time}
 use Rattle.driver_model.specs.declared.replies.Flipped.{Flipped}
 use Rattle.driver_model.specs.declared.replies.PresentStatus.{PresentStatus}
@@ -312,6 +313,68 @@ refused_calls_are_legal = (
     ),
   ),
 )
+
+-- ---- a job that has the first surface as its target, and was begun by another caller at place 0
+
+abbrev begun : State
+begun = record start {
+  notes = record { place = 0; caller = 0 ∷ []; target = 1; outcome = outcome.Ok; number = 0 } ∷ [];
+  items = 1;
+}
+
+-- its bytes can't be had yet, and a tick that would show it waits
+bytes_wait : Waits begun (call.OutputGetBits 1073741825 1024)
+unfolding found_from
+bytes_wait = refl
+
+other_bytes_do_not : Waits begun (call.OutputGetBits 1073741826 1024) → ⊥
+unfolding found_from
+other_bytes_do_not waits = let e : false ≡ true = waits in absurd cc
+
+-- a display is answered at once, a wish for the surface holds once the job has ended, and only its own caller can end it
+abbrev ended : List Item
+ended =
+    display 1073741825 10
+    ∷ says (call.Poll (wish.OutputHome 1073741825 ∷ [])) (Ok (Holds None))
+    ∷ says (call.Poll (wish.OutputHome 1073741825 ∷ wish.OutputHome 1073741826 ∷ [])) (Ok (Holds (Some 1)))
+    ∷ Ended (record { caller = 0 ∷ []; place = 0 })
+    ∷ says (call.Poll (wish.OutputHome 1073741825 ∷ [])) (Ok (Holds (Some 0)))
+    ∷ tick 10 (flip 1073741825 10 7 ∷ [])
+    ∷ []
+
+ended_is_legal : (end : State) × Leads begun ended end
+unfolding Leads found_from changed_at all_shown first_wish_from
+ended_is_legal = (
+  _,
+  (
+    _,
+    (_, inr (refl, refl), refl),
+    (
+      _,
+      (_, inr (refl, refl), refl),
+      (
+        _,
+        (_, inr (refl, refl), refl),
+        (
+          _,
+          (refl, refl),
+          (
+            _,
+            (_, inr (refl, refl), refl),
+            (
+              _,
+              (_, inr (refl, refl, refl), refl),
+              refl,
+            ),
+          ),
+        ),
+      ),
+    ),
+  ),
+)
+
+others_cannot_end : (end : State) → Happens begun (Ended (record { caller = []; place = 0 })) end → ⊥
+others_cannot_end end happens = let e : false ≡ true = happens.0 in absurd cc
 
 -- the least number that no other has
 numbers_are_reused : free_number (0 ∷ 2 ∷ 1 ∷ 4 ∷ []) ≡ 3

@@ -1,5 +1,5 @@
 -- Worked cases: sizes, creates, parts of histories, shown pictures and the text of flips. Each is proved by computing.
-use Rattle.std.proofs.Common.{◌≡◌, ◌⊎◌, inl, inr, ℕ, true, false, List, [], ◌∷◌, ◌++◌, codes, Some, None, Ok, Err, refl}
+use Rattle.std.proofs.Common.{◌≡◌, inl, inr, ℕ, true, false, List, [], ◌∷◌, ◌++◌, codes, Ok, Err, refl}
 use Rattle.std.specs.Fmt.{digits}
 use Rattle.vd_status.specs.declared.refusal.Refusal.TheVariants.{BadInfo, BadProfile, BadRgba, BadSize, HandlesFull, InvalidHandle, OutOfMemory}
 use Rattle.clock_script.specs.declared.script.ScriptLine.TheVariants.{Preempt, Tick}
@@ -9,7 +9,7 @@ use Rattle.driver_model.specs.Histories.{IsLegal, Leads}
 use Rattle.driver_model.specs.Parts.{part, part_from}
 use Rattle.driver_model.specs.ShownPictures.{shown_from, shown_pictures}
 use Rattle.driver_model.specs.Sizes.{size_for}
-use Rattle.driver_model.specs.States.{State, changed_at, found_from}
+use Rattle.driver_model.specs.States.{changed_at, found_from}
 use Rattle.driver_model.specs.declared.calls.Call.{Call}
 use Rattle.driver_model.specs.declared.calls.Call.TheVariants as call
 use Rattle.driver_model.specs.declared.items.Item.{Item}

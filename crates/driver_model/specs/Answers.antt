@@ -1,5 +1,5 @@
 -- What a call may answer, and the state behind it.
-use Rattle.std.specs.Prelude.{◌≡◌, List, Result, Ok, Err, MatchResult}
+use Rattle.std.specs.Prelude.{◌≡◌, Result, Ok, Err, MatchResult}
 use Rattle.vd_status.specs.declared.refusal.Refusal.{Refusal}
 use Rattle.driver_model.specs.Refusals.{Looked}
 use Rattle.driver_model.specs.States.{State}

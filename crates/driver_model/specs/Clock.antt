@@ -1,12 +1,12 @@
 -- Devices: their end, their preemption (vdpau.h, VdpPreemptionCallback), and the ticks of their clocks, at which queues show surfaces.
-use Rattle.std.specs.Prelude.{◌≡◌, ℕ, ◌==◌, nat_le, Bool, true, false, ◌&&◌, if◌then◌else◌, List, [], ◌∷◌, map, filter_map, Option, Some, None, Result, Ok, Err, unwrap_or}
+use Rattle.std.specs.Prelude.{◌≡◌, ℕ, ◌==◌, nat_le, Bool, true, false, ◌&&◌, if◌then◌else◌, List, [], ◌∷◌, map, filter_map, Option, Some, None, Ok, unwrap_or}
 use Rattle.std.specs.List.{enumerate_from, list_any}
 use Rattle.std.specs.Option.{option_and_then, option_map, option_map_or, ok_or}
 use Rattle.cb_types.specs.SizeMbs.{luma_height, luma_width}
 use Rattle.present_queue.specs.Queue.{due, ticked}
 use Rattle.vd_status.specs.declared.refusal.Refusal.TheVariants.{InvalidHandle, TimeNotAfter}
-use Rattle.driver_model.specs.Answers.{Goes, Leaves, Reply, Tells}
-use Rattle.driver_model.specs.Objects.{Content, Device, DeviceObject, VideoObject, OutputObject, OutputSurface, DecoderObject, MixerObject, QueueObject, PresentationQueue, Object, as_device, as_output, as_queue}
+use Rattle.driver_model.specs.Answers.{Goes, Leaves, Reply}
+use Rattle.driver_model.specs.Objects.{Content, Device, DeviceObject, OutputObject, OutputSurface, QueueObject, PresentationQueue, Object, as_device, as_output, as_queue}
 use Rattle.driver_model.specs.Queues.{emptied}
 use Rattle.driver_model.specs.Refusals.{Looked, ◌>>=◌, ◌>>◌, first_handle, refused_if}
 use Rattle.driver_model.specs.States.{State, Found, changed_at, content_at, is_out, name_at, named, with_content}

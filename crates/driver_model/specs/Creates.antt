@@ -1,5 +1,5 @@
 -- The calls that make objects (vdpau.h, Vdp..Create).
-use Rattle.std.specs.Prelude.{◌≡◌, ◌⊎◌, ℕ, ◌*◌, ◌≤◌, ◌==◌, Bool, true, false, not, ◌||◌, nat_lt, List, [], length, replicate, Some, None, Result, Ok, Err}
+use Rattle.std.specs.Prelude.{◌≡◌, ◌⊎◌, ℕ, ◌≤◌, ◌==◌, Bool, true, false, not, ◌||◌, nat_lt, length, replicate, None, Ok}
 use Rattle.std.specs.Option.{is_some}
 use Rattle.handle_table.specs.Name.{kind_of}
 use Rattle.mixer.specs.declared.TheConstants.{DEFAULT_MATRIX}

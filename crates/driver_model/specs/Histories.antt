@@ -1,5 +1,5 @@
 -- Histories: what was called and answered, one item after the other. A legal one is that of a driver that does one thing at a time.
-use Rattle.std.specs.Prelude.{◌≡◌, ℕ, true, List, [], ◌∷◌}
+use Rattle.std.specs.Prelude.{◌≡◌, true, List, [], ◌∷◌}
 use Rattle.driver_model.specs.States.{State, counted, empty_state, has_note, without_note}
 use Rattle.driver_model.specs.Steps.{Step}
 use Rattle.driver_model.specs.declared.items.Item.{Item}

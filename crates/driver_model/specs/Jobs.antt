@@ -1,5 +1,5 @@
 -- What the two jobs, renders and mixes, have in common. A job is one step of the driver, at its beginning.
-use Rattle.std.specs.Prelude.{Result, Ok, Err}
+use Rattle.std.specs.Prelude.{Ok, Err}
 use Rattle.decoder_render.specs.declared.outcome.Outcome.{Outcome}
 use Rattle.decoder_render.specs.declared.outcome.Outcome.TheVariants as outcome
 use Rattle.vd_status.specs.declared.refusal.Refusal.TheVariants.{Bitstream, Incomplete}

@@ -1,5 +1,5 @@
 -- What follows from the definitions.
-use Rattle.std.specs.Prelude.{◌≡◌, ◌≢◌, ◌⊎◌, ℕ, ◌<◌, Bool, true, false, List, [], ◌∷◌, ◌++◌, length, map, filter_map, AllPairs, slice_get, Option, Some, None, Result, Ok, Err, ⊤}
+use Rattle.std.specs.Prelude.{◌≡◌, ◌≢◌, ℕ, Bool, true, false, List, ◌++◌, map, filter_map, AllPairs, slice_get, Option, Some, None, Err, ⊤}
 use Rattle.std.specs.List.{AllByRecursion}
 use Rattle.cb_types.specs.SizeMbs.{IsWithinLimits}
 use Rattle.present_queue.specs.Queue.{Names, Queue}

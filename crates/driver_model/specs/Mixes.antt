@@ -1,5 +1,5 @@
 -- The mixing of a video surface into an output surface (vdpau.h, VdpVideoMixerRender).
-use Rattle.std.specs.Prelude.{◌≡◌, ℕ, ◌==◌, Bool, true, false, not, ◌&&◌, ◌||◌, List, Result, Ok, Err}
+use Rattle.std.specs.Prelude.{◌≡◌, ℕ, ◌==◌, Bool, false, not, ◌&&◌, ◌||◌, List, Ok}
 use Rattle.decoder_render.specs.declared.outcome.Outcome.TheVariants as outcome
 use Rattle.mixer.specs.Mixed.{IsMixed}
 use Rattle.vd_status.specs.declared.refusal.Refusal.TheVariants.{BadSize, BadStructure}

@@ -1,7 +1,7 @@
 -- The driver's objects, as callers know them (vdpau.h, the opaque handle types). There is no shared storage and no memory here.
-use Rattle.std.specs.Prelude.{ℕ, Bool, false, List, [], ℤ, Option, Some, None}
+use Rattle.std.specs.Prelude.{ℕ, Bool, List, ℤ, Option, Some, None}
 use Rattle.cb_types.specs.declared.size.SizeMbs.{SizeMbs}
-use Rattle.present_queue.specs.Queue.{Queue, empty_queue}
+use Rattle.present_queue.specs.Queue.{Queue}
 use Rattle.vd_plane.specs.declared.picture.Picture.{Picture}
 use Rattle.driver_model.specs.declared.numbers.TheConstants as number
 

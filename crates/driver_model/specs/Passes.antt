@@ -1,5 +1,5 @@
 -- Whose items they are, and what a call adds to what its caller has seen.
-use Rattle.std.specs.Prelude.{◌≡◌, ℕ, Bool, true, false, if◌then◌else◌, List, [], ◌∷◌, ◌++◌, length, count_by, Result, Ok, Err}
+use Rattle.std.specs.Prelude.{◌≡◌, ℕ, Bool, true, false, if◌then◌else◌, List, [], ◌∷◌, ◌++◌, length, count_by, Ok, Err}
 use Rattle.device_lock.specs.Numbers.{Knows}
 use Rattle.device_lock.specs.declared.view.View.{View}
 use Rattle.vd_status.specs.declared.refusal.Refusal.TheVariants.{Bitstream, Incomplete}

@@ -1,5 +1,5 @@
 -- How output surfaces stand to the presentation queues (vdpau.h, VdpPresentationQueueStatus).
-use Rattle.std.specs.Prelude.{ℕ, ◌==◌, Bool, not, ◌&&◌, ◌||◌, if◌then◌else◌, List, filter_map, Option}
+use Rattle.std.specs.Prelude.{ℕ, ◌==◌, Bool, not, ◌||◌, if◌then◌else◌, List, filter_map, Option}
 use Rattle.std.specs.Option.{option_map_or, option_map, option_and_then}
 use Rattle.present_queue.specs.Queue.{Queue, is_queued, is_shown}
 use Rattle.driver_model.specs.Objects.{LastFlip, Object, as_output, as_queue}

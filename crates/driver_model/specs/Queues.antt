@@ -1,8 +1,8 @@
 -- The calls on presentation queues (vdpau.h, VdpPresentationQueue..).
-use Rattle.std.specs.Prelude.{◌≡◌, ℕ, ◌==◌, Bool, true, false, if◌then◌else◌, List, [], ◌∷◌, Option, None, Result, Ok, Err}
+use Rattle.std.specs.Prelude.{◌≡◌, ℕ, true, [], None, Ok}
 use Rattle.present_queue.specs.Queue.{Queue, Queued, answer_to_display, displayed, promised}
 use Rattle.driver_model.specs.Answers.{Goes, Leaves, Reply, Tells}
-use Rattle.driver_model.specs.Objects.{Content, QueueObject, PresentationQueue, OutputSurface, as_output, as_queue}
+use Rattle.driver_model.specs.Objects.{QueueObject, PresentationQueue, OutputSurface, as_output, as_queue}
 use Rattle.driver_model.specs.Presented.{first_time, is_idle_at, status_at}
 use Rattle.driver_model.specs.Refusals.{Looked, ◌>>=◌, ◌>>◌, first_handle, further_handle}
 use Rattle.driver_model.specs.States.{State, Found, destroyed_with, named, time_of, with_content}

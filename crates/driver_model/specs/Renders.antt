@@ -1,5 +1,5 @@
 -- The decoding of a picture into a video surface (vdpau.h, VdpDecoderRender).
-use Rattle.std.specs.Prelude.{◌≡◌, ℕ, ◌+◌, ◌==◌, Bool, true, false, not, ◌&&◌, ◌||◌, if◌then◌else◌, List, [], ◌∷◌, length, map, Option, Some, None, Result, Ok, Err, MatchOption}
+use Rattle.std.specs.Prelude.{◌≡◌, ℕ, ◌+◌, ◌==◌, Bool, false, not, ◌||◌, if◌then◌else◌, List, [], ◌∷◌, length, map, Option, Some, None, Ok, Err}
 use Rattle.std.specs.List.{list_any, position}
 use Rattle.std.specs.Option.{option_map, option_map_or}
 use Rattle.cb_types.specs.AcceptedInfo.{accepted_fields}

@@ -1,9 +1,8 @@
 -- What is true of the queues in the state of each legal history.
-use Rattle.std.specs.Prelude.{◌≡◌, ℕ, ◌≤◌, Bool, false, List, length, slice_get, Option, Some, IsSome, MatchOption, ⊤}
+use Rattle.std.specs.Prelude.{◌≡◌, ℕ, ◌≤◌, Bool, false, List, length, slice_get, Some, IsSome, MatchOption, ⊤}
 use Rattle.present_queue.specs.Queue.{Names, Queue, most_entries}
 use Rattle.driver_model.specs.Objects.{Object, as_output}
 use Rattle.driver_model.specs.Presented.{queue_in}
-use Rattle.driver_model.specs.States.{State}
 
 -- the object at this place is an output surface of this device
 pub record IsOutputOf (objects : List Object) (device place : ℕ) : Type 0 where

@@ -1,10 +1,10 @@
 -- The state of a driver: all objects ever made, the notes of jobs that were begun and haven't ended, and how long the history is.
-use Rattle.std.specs.Prelude.{ℕ, zero, suc, ◌+◌, ◌==◌, Bool, true, false, not, ◌&&◌, ◌||◌, if◌then◌else◌, List, [], ◌∷◌, ◌++◌, length, map, filter, filter_map, slice_get, count_by, Option, Some, None, unwrap_or, option_map, option_and_then}
+use Rattle.std.specs.Prelude.{ℕ, zero, suc, ◌+◌, ◌==◌, Bool, false, not, ◌&&◌, if◌then◌else◌, List, [], ◌∷◌, ◌++◌, length, map, filter, slice_get, count_by, Option, None, option_map, option_and_then}
 use Rattle.std.specs.List.{list_any}
 use Rattle.std.specs.Option.{option_or, option_map_or}
 use Rattle.decoder_render.specs.declared.outcome.Outcome.{Outcome}
 use Rattle.device_lock.specs.Lists.{same}
-use Rattle.driver_model.specs.Objects.{Content, Object, Device, as_device}
+use Rattle.driver_model.specs.Objects.{Content, Object, as_device}
 
 -- A job that was begun and hasn't ended: the place of its entry in the history, its caller, the place of its target among all
 -- objects ever made, its outcome, and a number that no other note has.

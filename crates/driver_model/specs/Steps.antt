@@ -1,5 +1,5 @@
 -- One step of a driver: from a state, by a caller's call and its reply, to a state.
-use Rattle.std.specs.Prelude.{◌≡◌, ◌⊎◌, ℕ, Bool, true, false, List, Option, Result, Ok, Err}
+use Rattle.std.specs.Prelude.{◌≡◌, ◌⊎◌, ℕ, Bool, true, false, List}
 use Rattle.vd_status.specs.declared.refusal.Refusal.TheVariants.{OutOfMemory}
 use Rattle.driver_model.specs.Answers.{IsRefused, Reply}
 use Rattle.driver_model.specs.Clock.{Advance, DeviceDestroy, Preempt}

@@ -1,6 +1,6 @@
 -- The calls on surfaces, decoders and mixers that make nothing and begin no job. The section on each call says first what the call
 -- looks at, and then what it does.
-use Rattle.std.specs.Prelude.{◌≡◌, ℕ, ◌==◌, Bool, true, false, not, if◌then◌else◌, List, [], length, map, ℤ, Ok}
+use Rattle.std.specs.Prelude.{◌≡◌, ℕ, ◌==◌, true, false, not, if◌then◌else◌, List, length, ℤ, Ok}
 use Rattle.bits_io.specs.ByteOrder.{byte_count, bytes_of}
 use Rattle.cb_types.specs.SizeMbs.{luma_height, luma_width}
 use Rattle.cb_types.specs.declared.size.TheConstants.{MAX_PICTURE_MBS}
@@ -8,7 +8,7 @@ use Rattle.vd_plane.specs.Picture.{SameSize}
 use Rattle.vd_plane.specs.declared.picture.Picture.{Picture}
 use Rattle.vd_status.specs.declared.refusal.Refusal.TheVariants.{BadSize, BadYCbCr}
 use Rattle.driver_model.specs.Answers.{Goes, Leaves, Reply, Tells}
-use Rattle.driver_model.specs.Objects.{Content, VideoObject, VideoSurface, OutputObject, OutputSurface, Decoder, MixerObject, VideoMixer, Device, as_device, as_video, as_output, as_decoder, as_mixer}
+use Rattle.driver_model.specs.Objects.{VideoObject, VideoSurface, OutputObject, OutputSurface, Decoder, MixerObject, VideoMixer, as_device, as_video, as_output, as_decoder, as_mixer}
 use Rattle.driver_model.specs.Refusals.{Looked, ◌>>=◌, ◌>>◌, first_handle, refused_if}
 use Rattle.driver_model.specs.Sizes.{is_profile, is_ycbcr_format, pixel_bytes}
 use Rattle.driver_model.specs.States.{State, Found, destroyed, is_out, named, with_content}

@@ -1,5 +1,5 @@
 -- When a call waits: it isn't refused, and what it waits for isn't so yet. It stands in no history before it is answered.
-use Rattle.std.specs.Prelude.{◌≡◌, ℕ, Bool, true, false, not, List, length, Option, IsOkAnd}
+use Rattle.std.specs.Prelude.{◌≡◌, ℕ, Bool, true, not, List, length, Option, IsOkAnd}
 use Rattle.std.specs.Option.{is_none}
 use Rattle.decoder_render.specs.Submission.{ArePayloads}
 use Rattle.driver_model.specs.Clock.{advance, is_tick_held}

@@ -1,9 +1,9 @@
 -- What callers wait for. Wishes are tried in order, and the first that is refused or holds decides.
-use Rattle.std.specs.Prelude.{◌≡◌, ℕ, ◌+◌, nat_lt, Bool, not, if◌then◌else◌, List, [], ◌∷◌, Option, Some, None, Result, Ok, Err, MatchOption}
+use Rattle.std.specs.Prelude.{ℕ, ◌+◌, nat_lt, Bool, not, if◌then◌else◌, List, [], ◌∷◌, Option, Some, None, Ok, MatchOption}
 use Rattle.driver_model.specs.Answers.{Goes, Reply, Tells}
 use Rattle.driver_model.specs.Objects.{as_output, as_queue, as_video}
 use Rattle.driver_model.specs.Presented.{is_idle_at}
-use Rattle.driver_model.specs.Refusals.{Looked, ◌>>=◌, ◌>>◌, in_use}
+use Rattle.driver_model.specs.Refusals.{Looked, ◌>>=◌, in_use}
 use Rattle.driver_model.specs.States.{State, is_out, named}
 use Rattle.driver_model.specs.declared.calls.Wish.{Wish}
 use Rattle.driver_model.specs.declared.calls.Wish.TheVariants.{OutputIdle, VideoHome, OutputHome, PromisePast}

@@ -1,0 +1,96 @@
+-- What follows from the definitions.
+use Rattle.std.specs.Prelude.{◌≡◌, ◌≢◌, ℕ, Bool, true, false, List, ◌++◌, map, filter_map, AllPairs, slice_get, Option, Some, None, Err, ⊤}
+use Rattle.std.specs.List.{AllByRecursion}
+use Rattle.cb_types.specs.SizeMbs.{IsWithinLimits}
+use Rattle.present_queue.specs.Queue.{Names, Queue}
+use Rattle.vd_status.specs.declared.refusal.Refusal.{Refusal}
+use Rattle.vd_status.specs.declared.refusal.Refusal.TheVariants.{Bitstream, Incomplete, OutOfMemory}
+use Rattle.driver_model.specs.Answers.{Reply}
+use Rattle.driver_model.specs.Histories.{IsLegal, IsStateOf}
+use Rattle.driver_model.specs.Objects.{Content, DecoderObject}
+use Rattle.driver_model.specs.Parts.{name_given}
+use Rattle.driver_model.specs.Presented.{is_idle_at, queues_of}
+use Rattle.driver_model.specs.Sound.{AreSound}
+use Rattle.driver_model.specs.States.{State}
+use Rattle.driver_model.specs.Steps.{Step}
+use Rattle.driver_model.specs.Waits.{Waits}
+use Rattle.driver_model.specs.declared.calls.Call.{Call}
+use Rattle.driver_model.specs.declared.items.Item.{Item}
+use Rattle.driver_model.specs.declared.items.Item.TheVariants.{Called, Ended}
+
+-- Each decoder has a size within the limits, as those that were created.
+abbrev pub HasSize : Content → Type 0
+HasSize (DecoderObject decoder) = IsWithinLimits decoder.size
+HasSize _ = ⊤
+
+abbrev pub HasSizes : State → Type 0
+HasSizes s = AllByRecursion (λ object. HasSize object.content) s.objects
+
+-- The state behind a step is settled by the state before it, the caller, the call and the reply.
+abbrev pub StepsLeaveOneState : Type 0
+StepsLeaveOneState =
+    (old new other : State) (caller : List ℕ) (call : Call) (reply : Reply)
+    → HasSizes old → Step old caller call reply new → Step old caller call reply other → new ≡ other
+
+-- A history leads to one state at most, and each decoder there has a size within the limits.
+abbrev pub HistoriesLeadToOneState : Type 0
+HistoriesLeadToOneState = (history : List Item) (s t : State) → IsStateOf history s → IsStateOf history t → s ≡ t
+
+abbrev pub HistoriesHaveSizes : Type 0
+HistoriesHaveSizes = (history : List Item) (s : State) → IsStateOf history s → HasSizes s
+
+-- the name that an item gives
+abbrev pub given_by : Item → Option ℕ
+given_by (Called entry) = name_given entry.reply
+given_by (Ended mark) = None
+
+-- The names of all objects are those that the history gave, in the order in which it gave them, and no two are equal.
+abbrev pub NamesAreGiven : Type 0
+NamesAreGiven =
+    (history : List Item) (s : State) → IsStateOf history s → map (λ object. object.name) s.objects ≡ filter_map given_by history
+
+abbrev pub NamesAreGivenOnce : Type 0
+NamesAreGivenOnce = (history : List Item) → IsLegal history → AllPairs (λ a b. a ≢ b) (filter_map given_by history)
+
+-- The refusals of a render that was begun: its bitstream is at fault.
+abbrev pub is_of_bitstream : Refusal → Bool
+is_of_bitstream (Bitstream slice) = true
+is_of_bitstream (Incomplete macroblocks) = true
+is_of_bitstream _ = false
+
+-- Every other refusal leaves the state as it was.
+abbrev pub RefusalsLeaveTheState : Type 0
+RefusalsLeaveTheState =
+    (old new : State) (caller : List ℕ) (call : Call) (refusal : Refusal)
+    → is_of_bitstream refusal ≡ false → Step old caller call (Err refusal) new → new ≡ old
+
+-- A call has one refusal at most in a state, beside want of memory.
+abbrev pub RefusalsAreOne : Type 0
+RefusalsAreOne =
+    (old new other : State) (caller : List ℕ) (call : Call) (a b : Refusal)
+    → HasSizes old
+    → a ≢ OutOfMemory
+    → b ≢ OutOfMemory
+    → Step old caller call (Err a) new
+    → Step old caller call (Err b) other
+    → a ≡ b
+
+-- A call that waits has no reply but want of memory.
+abbrev pub WaitingCallsAreNotAnswered : Type 0
+WaitingCallsAreNotAnswered =
+    (old new : State) (caller : List ℕ) (call : Call) (reply : Reply)
+    → Waits old call → Step old caller call reply new → reply ≡ Err OutOfMemory
+
+-- No queue has an entry of an idle surface, or shows it.
+abbrev pub IdleSurfacesAreNotNamed : Type 0
+IdleSurfacesAreNotNamed =
+    (s : State) (surface place : ℕ) (queue : Queue ℕ)
+    → is_idle_at s surface ≡ true → slice_get (queues_of s) place ≡ Some queue → Names queue surface → ⊥
+
+-- In the state of a legal history each queue is sound: it names output surfaces of its own device, and none once it is destroyed.
+abbrev pub QueuesAreSound : Type 0
+QueuesAreSound = (history : List Item) (s : State) → IsStateOf history s → AreSound s.objects
+
+-- Each front of a legal history is legal.
+abbrev pub FrontsAreLegal : Type 0
+FrontsAreLegal = (front rest : List Item) → IsLegal (front ++ rest) → IsLegal front

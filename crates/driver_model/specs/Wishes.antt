@@ -1,0 +1,45 @@
+-- What callers wait for. Wishes are tried in order, and the first that is refused or holds decides.
+use Rattle.std.specs.Prelude.{ℕ, ◌+◌, nat_lt, Bool, not, if◌then◌else◌, List, [], ◌∷◌, Option, Some, None, Ok, MatchOption}
+use Rattle.driver_model.specs.Answers.{Goes, Reply, Tells}
+use Rattle.driver_model.specs.Objects.{as_output, as_queue, as_video}
+use Rattle.driver_model.specs.Presented.{is_idle_at}
+use Rattle.driver_model.specs.Refusals.{Looked, ◌>>=◌, in_use}
+use Rattle.driver_model.specs.States.{State, is_out, named}
+use Rattle.driver_model.specs.declared.calls.Wish.{Wish}
+use Rattle.driver_model.specs.declared.calls.Wish.TheVariants.{OutputIdle, VideoHome, OutputHome, PromisePast}
+use Rattle.driver_model.specs.declared.replies.Answer.TheVariants.{Holds}
+
+-- Whether the wish at this place holds. Its object stands for an only handle, with the wish's place as its number.
+abbrev pub wish_holds : State → ℕ → Wish → Looked Bool
+wish_holds s arg (OutputIdle surface) = do
+  on ← in_use s arg (named s as_output surface)
+  Ok (is_idle_at s on.place)
+wish_holds s arg (VideoHome surface) = do
+  on ← in_use s arg (named s as_video surface)
+  Ok (not (is_out s on.place))
+wish_holds s arg (OutputHome surface) = do
+  on ← in_use s arg (named s as_output surface)
+  Ok (not (is_out s on.place))
+wish_holds s arg (PromisePast queue time) = do
+  on ← in_use s arg (named s as_queue queue)
+  Ok (nat_lt time on.value.queue.promise)
+
+-- the place of the first wish that holds, of a list whose places begin with this one
+unfoldable pub first_wish_from : State → ℕ → List Wish → Looked (Option ℕ)
+first_wish_from s arg [] = Ok None
+first_wish_from s arg (wish ∷ later) = do
+  holds ← wish_holds s arg wish
+  if holds then Ok (Some arg) else first_wish_from s (arg + 1) later
+
+abbrev pub first_wish : State → List Wish → Looked (Option ℕ)
+first_wish s wishes = first_wish_from s 0 wishes
+
+module _ (old : State) (reply : Reply) (new : State) where
+  -- the place of the first wish that holds, or None where none does
+  abbrev pub Poll : List Wish → Type 0
+  Poll wishes = Goes old reply new (first_wish old wishes) (λ place. Tells old reply new (Holds place))
+
+  -- the same, but it waits where none does
+  abbrev pub WaitUntil : List Wish → Type 0
+  WaitUntil wishes =
+      Goes old reply new (first_wish old wishes) (λ place. MatchOption place ⊥ (λ found. Tells old reply new (Holds (Some found))))

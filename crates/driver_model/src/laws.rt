@@ -1,0 +1,44 @@
+// What follows from the definitions.
+ghost use Rattle.driver_model.specs.Laws.{FrontsAreLegal, HistoriesHaveSizes, HistoriesLeadToOneState, IdleSurfacesAreNotNamed, NamesAreGiven, NamesAreGivenOnce, QueuesAreSound, RefusalsAreOne, RefusalsLeaveTheState, StepsLeaveOneState, WaitingCallsAreNotAnswered};
+
+/// The state behind a call is settled by the state before it, the caller, the call and its reply.
+pub fn steps_leave_one_state()
+    ensures { StepsLeaveOneState }
+{}
+
+/// A history leads to one state at most, whose decoders have sizes within the limits, and each front of a
+/// legal history is legal.
+pub fn histories_lead_to_one_state()
+    ensures one { HistoriesLeadToOneState }
+    ensures sizes { HistoriesHaveSizes }
+    ensures fronts { FrontsAreLegal }
+{}
+
+/// The names of all objects are those that the history gave, and none was given twice.
+pub fn names_are_given_once()
+    ensures given { NamesAreGiven }
+    ensures once { NamesAreGivenOnce }
+{}
+
+/// A refusal leaves the state, where it isn't that of a job's bitstream; a call has one refusal at most in a
+/// state, beside want of memory.
+pub fn refusals_leave_the_state()
+    ensures state { RefusalsLeaveTheState }
+    ensures one { RefusalsAreOne }
+{}
+
+/// A call that waits isn't answered, but where memory wants.
+pub fn waiting_calls_are_not_answered()
+    ensures { WaitingCallsAreNotAnswered }
+{}
+
+/// No queue has an entry of an idle surface, or shows it.
+pub fn idle_surfaces_are_not_named()
+    ensures { IdleSurfacesAreNotNamed }
+{}
+
+/// Where a legal history leads, each queue names output surfaces of its own device, at most 64 entries wait
+/// in it, and a destroyed one is empty.
+pub fn queues_are_sound()
+    ensures { QueuesAreSound }
+{}

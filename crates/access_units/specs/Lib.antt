@@ -1,0 +1,14 @@
+pub mod Sets
+pub mod Contents
+pub mod AccessUnits
+pub mod Depth
+pub mod Pictures
+pub mod Acceptors
+pub mod Known
+pub mod Readable
+pub mod Hands
+pub mod Stands
+pub mod Standing
+pub mod Taking
+pub mod Giving
+pub mod Gathering

@@ -1,0 +1,39 @@
+-- A picture that the acceptor gave, until it is settled what its slices come to.
+use Rattle.std.specs.Prelude.{◌≡◌, ◌<◌, false, Option, Some, None}
+use Rattle.cb_types.specs.References.{is_absent, is_unused}
+use Rattle.cb_types.specs.declared.picture_info.Reference.{Reference}
+use Rattle.vd_plane.specs.declared.picture.Picture as samples
+use Rattle.access_units.specs.Acceptors as acceptors
+use Rattle.access_units.specs.Pictures.{Picture}
+use Rattle.access_units.specs.Standing as acceptor
+use Rattle.access_units.specs.declared.acceptor.Unsettled.{Unsettled}
+use Rattle.file_pictures.specs.Files.{AreAllWhole, Decoded, IsWholeBehind}
+use Rattle.file_pictures.specs.Streams.{AreKept, AreNumbered, Stream, past_of}
+use Rattle.file_pictures.specs.declared.stream_decoder.StreamDecoder.{StreamDecoder}
+
+-- what was fed and given before, and the picture
+pub record Offer : Type 0 where
+  pub stream : Stream
+  pub picture : Picture
+
+-- The picture is the next one, and the decoder stands for what was fed to it and given by it before.
+pub record IsOffered (decoder : StreamDecoder) (offer : Offer) (unsettled : Unsettled) : Type 0 where
+  pub acceptor : acceptor.StandsFor decoder.acceptor (acceptors.giving (past_of offer.stream) offer.picture)
+  pub next : acceptors.IsNext (past_of offer.stream) offer.picture
+  pub shows : acceptors.Shows unsettled offer.picture
+  pub decodable : acceptors.IsDecodable (past_of offer.stream) unsettled
+  pub whole : AreAllWhole offer.stream.decoded
+  pub kept : AreKept decoder offer.stream.decoded
+  pub numbers : AreNumbered offer.stream.decoded
+
+abbrev pub with_samples : Offer → samples.Picture → Decoded
+with_samples offer samples = record { picture = offer.picture; samples = samples }
+
+-- These are the samples that its slices come to, None where they come to no whole picture.
+abbrev pub AreSamples : Offer → Option samples.Picture → Type 0
+AreSamples offer None = (any : samples.Picture) → ¬ IsWholeBehind offer.stream.decoded (with_samples offer any)
+AreSamples offer (Some samples) = IsWholeBehind offer.stream.decoded (with_samples offer samples)
+
+-- An entry that is used, and isn't an absent frame, has an own number of a picture.
+abbrev pub HasNumber : Reference → Type 0
+HasNumber entry = is_unused entry ≡ false → is_absent entry ≡ false → entry.surface < 17

@@ -1,0 +1,81 @@
+-- What a decoder of a file stands for, and what it answers.
+use Rattle.std.specs.Prelude.{◌≡◌, ℕ, ◌<◌, ◌≤◌, Bool, true, false, List, [], ◌∷◌, ◌++◌, length, slice_index_or, All, Some, None}
+use Rattle.std.specs.Arc.{arc_value}
+use Rattle.std.specs.List.{find}
+use Rattle.std.specs.Option.{option_map}
+use Rattle.access_units.specs.AccessUnits.{AccessUnit}
+use Rattle.access_units.specs.Acceptors.{IsSettled, Past}
+use Rattle.access_units.specs.Depth.{depth_of}
+use Rattle.access_units.specs.Standing as acceptor
+use Rattle.file_pictures.specs.Files.{AreAllWhole, AreDecoded, Decoded, IsDecoded, IsReadTo, IsReadWhole, has_own_number, pictures_in}
+use Rattle.file_pictures.specs.declared.stream_decoder.DecodedPicture.{DecodedPicture}
+use Rattle.file_pictures.specs.declared.stream_decoder.Step.{Step}
+use Rattle.file_pictures.specs.declared.stream_decoder.Step.TheVariants as step
+use Rattle.file_pictures.specs.declared.stream_decoder.StreamDecoder.{StreamDecoder}
+
+-- the bytes fed, whether the end was fed, and the pictures given, of which the newest is the first
+pub record Stream : Type 0 where
+  pub text : List ℕ
+  pub ended : Bool
+  pub decoded : List Decoded
+
+abbrev pub no_stream : Stream
+no_stream = record { text = []; ended = false; decoded = [] }
+
+abbrev pub streamed : Stream → List ℕ → Stream
+streamed stream [] = record stream { ended = true }
+streamed stream (byte ∷ bytes) = record stream { text = stream.text ++ byte ∷ bytes }
+
+abbrev pub showing : Stream → Decoded → Stream
+showing stream one = record stream { decoded = one ∷ stream.decoded }
+
+-- Bytes may be fed: the end wasn't, and with them there are 2^30 at most.
+pub record MayFeed (stream : Stream) (bytes : List ℕ) : Type 0 where
+  pub not_ended : stream.ended ≡ false
+  pub room : length (stream.text ++ bytes) ≤ 1073741824
+
+-- The samples that are kept for an own number are those of the newest picture with that number.
+abbrev pub AreKept : StreamDecoder → List Decoded → Type 0
+AreKept decoder decoded =
+    (number : ℕ) → number < 17
+    → option_map arc_value (slice_index_or decoder.pictures number None) ≡ option_map (λ (one : Decoded). one.samples) (find (has_own_number number) decoded)
+
+-- Each of these pictures has an own number below 17.
+abbrev pub AreNumbered : List Decoded → Type 0
+AreNumbered decoded = All (λ (one : Decoded). one.picture.begun.frame < 17) decoded
+
+-- the acceptor's past
+abbrev pub past_of : Stream → Past
+past_of stream = record { text = stream.text; ended = stream.ended; given = pictures_in stream.decoded; outcome = Some true }
+
+-- The decoder stands for what was fed to it and given by it.
+pub record StandsFor (decoder : StreamDecoder) (stream : Stream) : Type 0 where
+  pub acceptor : acceptor.StandsFor decoder.acceptor (past_of stream)
+  pub whole : AreAllWhole stream.decoded
+  pub kept : AreKept decoder stream.decoded
+  pub numbers : AreNumbered stream.decoded
+
+-- ---- the answers
+
+-- what is handed out of a picture
+pub record Shows (shown : DecodedPicture) (one : Decoded) : Type 0 where
+  pub offset : shown.offset ≡ one.picture.offset
+  pub poc : shown.poc ≡ one.picture.begun.poc
+  pub period : shown.period ≡ one.picture.begun.period
+  pub depth : shown.depth ≡ depth_of one.picture.sps
+  pub samples : arc_value shown.samples ≡ one.samples
+
+-- It is the picture of the access unit whose turn is next.
+pub record IsNextOne (stream : Stream) (one : Decoded) : Type 0 where
+  pub front : List AccessUnit
+  pub au : AccessUnit
+  pub settled : IsSettled stream.text stream.ended front au
+  pub before : AreDecoded front stream.decoded
+  pub decoded : IsDecoded stream.decoded au one
+
+-- What is answered, and what the decoder stands for behind it; behind a refused access unit, and behind the end, it isn't asked again.
+abbrev pub IsStep : Stream → Step → StreamDecoder → Type 0
+IsStep stream step.Hungry decoder = (stream.ended ≡ false) × StandsFor decoder stream
+IsStep stream (step.Picture shown) decoder = (one : Decoded) × IsNextOne stream one × Shows shown one × StandsFor decoder (showing stream one)
+IsStep stream step.End decoder = (stream.ended ≡ true) × IsReadWhole stream.text stream.decoded
+IsStep stream (step.Refused offset large) decoder = IsReadTo stream.text stream.ended stream.decoded (record { offset = offset; large = large })

@@ -18,3 +18,4 @@ pub mod SoundTicks
 pub mod SoundLooks
 pub mod SoundJobs
 pub mod SoundSteps
+pub mod Agree

@@ -21,7 +21,7 @@ use Rattle.driver_model.specs.Objects.{Content, Device, DeviceObject, VideoSurfa
 use Rattle.driver_model.specs.Parts.{name_given}
 use Rattle.driver_model.specs.Queues as queues
 use Rattle.driver_model.specs.Refusals.{Looked, ◌>>=◌, ◌>>◌, first_handle, refused_if}
-use Rattle.driver_model.specs.Renders.{Decodes, Rendering, decoded, render}
+use Rattle.driver_model.specs.Renders.{Counts, Decodes, Rendering, decoded, render, units_counted}
 use Rattle.driver_model.specs.Sizes.{is_profile, is_within_limits, size_for, size_of_sides}
 use Rattle.driver_model.specs.States.{State, Found, destroyed, destroyed_with, is_given, named, with_content, with_note}
 use Rattle.driver_model.specs.Steps.{Does}
@@ -82,7 +82,7 @@ and_parts true b e = (refl, e)
 and_parts false b e = let k : false ≡ true = e in absurd cc
 
 -- a decoder that was created
-limits_of : (size : SizeMbs) → is_within_limits size ≡ true → IsWithinLimits size
+pub limits_of : (size : SizeMbs) → is_within_limits size ≡ true → IsWithinLimits size
 limits_of size h =
     let all = and_parts _ _ h in
     let sides = and_parts _ _ all.0 in
@@ -214,6 +214,9 @@ module _ (old new : State) (caller : List ℕ) (reply : Reply) where
         fresh = none_fresh (ap name_given p.tells ∙ reply_of-name p.outcome);
       }
 
+  counts_one : (info : PictureInfo) (bytes : List ℕ) (on : Rendering) → Counts old reply new caller info bytes on → OneStep old new reply
+  counts_one info bytes on p = goes_one (units_counted info (length p.payloads)) (λ nothing. Decodes old reply new caller info p.payloads on) (λ nothing a. decodes_one info p.payloads on a) p.goes
+
   keeps_tick : (on : Found Device) (time : ℕ) → Keeps old (clock.ticked_at old on time)
   keeps_tick on time =
       let timed = keeps_content old on.place (DeviceObject (record on.value { time = time })) tt in
@@ -256,5 +259,5 @@ module _ (old new : State) (caller : List ℕ) (reply : Reply) where
   does_one (call.Poll wishes) p = goes_one (first_wish old wishes) _ (λ on a. tells_one _ refl a) p
   does_one (call.WaitUntil wishes) p = goes_one (first_wish old wishes) _ wish_one p
   does_one call.Kept p = tells_one _ refl p
-  does_one (call.Render decoder target info bytes) p = goes_one (render old decoder target info (length p.payloads)) _ (decodes_one info p.payloads) p.goes
+  does_one (call.Render decoder target info bytes) p = goes_one (render old decoder target info) _ (counts_one info bytes) p
   does_one (call.Mix mixer structure video output) p = goes_one (mix old mixer structure video output) _ mix_one p

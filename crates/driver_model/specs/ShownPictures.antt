@@ -1,4 +1,4 @@
--- Which pictures of a stream a script of ticks shows, and when. It speaks of no surface and of no queue.
+-- Which pictures of a stream a script of ticks shows, and when. Only the pictures' numbers and the ticks' times count.
 use Rattle.std.specs.Prelude.{ℕ, ◌+◌, ◌*◌, nat_le, ◌==◌, Bool, false, not, if◌then◌else◌, List, [], ◌∷◌, ◌++◌, take_while, Option, Some, None}
 use Rattle.std.specs.Option.{option_map_or}
 use Rattle.clock_script.specs.Script.{is_preemption_of}

@@ -1,5 +1,5 @@
 // What follows from the definitions.
-ghost use Rattle.driver_model.specs.Laws.{FrontsAreLegal, HistoriesHaveSizes, HistoriesLeadToOneState, IdleSurfacesAreNotNamed, NamesAreGiven, NamesAreGivenOnce, QueuesAreSound, RefusalsAreOne, RefusalsLeaveTheState, StepsLeaveOneState, WaitingCallsAreNotAnswered};
+ghost use Rattle.driver_model.specs.Laws.{FrontsAreLegal, HistoriesHaveSizes, HistoriesLeadToOneState, IdleSurfacesAreNotNamed, LimitsAreOne, NamesAreGiven, NamesAreGivenOnce, OneProfileTakesWeights, QueuesAreSound, RefusalsAreOne, RefusalsLeaveTheState, StepsLeaveOneState, WaitingCallsAreNotAnswered};
 
 /// The state behind a call is settled by the state before it, the caller, the call and its reply.
 pub fn steps_leave_one_state()
@@ -32,7 +32,7 @@ pub fn waiting_calls_are_not_answered()
     ensures { WaitingCallsAreNotAnswered }
 {}
 
-/// No queue has an entry of an idle surface, or shows it.
+/// A surface is idle exactly where no queue has an entry of it or shows it.
 pub fn idle_surfaces_are_not_named()
     ensures { IdleSurfacesAreNotNamed }
 {}
@@ -41,4 +41,10 @@ pub fn idle_surfaces_are_not_named()
 /// in it, and a destroyed one is empty.
 pub fn queues_are_sound()
     ensures { QueuesAreSound }
+{}
+
+/// The limits of sizes are those within which pictures are decoded, and so is the profile that has weights.
+pub fn numbers_agree()
+    ensures sizes { LimitsAreOne }
+    ensures weights { OneProfileTakesWeights }
 {}

@@ -198,7 +198,7 @@ some_at {X} test (y ∷ xs) e = by_value (test y) refl e (λ k. some_at test xs 
   by_value true t k later = (zero, y, refl, t)
   by_value false t k later = let r = later k in (suc r.0, r.1, r.2, r.3)
 
-has_entry : (surface : ℕ) (entries : List (Queued ℕ)) → list_any (λ entry. entry.surface == surface) entries ≡ true → Contains (map (λ entry. entry.surface) entries) surface
+pub has_entry : (surface : ℕ) (entries : List (Queued ℕ)) → list_any (λ entry. entry.surface == surface) entries ≡ true → Contains (map (λ entry. entry.surface) entries) surface
 has_entry surface [] e = absurd (let k : false ≡ true = e in cc)
 has_entry surface (entry ∷ others) e = by_value (entry.surface == surface) refl e (λ k. has_entry surface others k) where
   by_value : (b : Bool) → (entry.surface == surface) ≡ b → (b || list_any (λ other. other.surface == surface) others) ≡ true
@@ -207,7 +207,7 @@ has_entry surface (entry ∷ others) e = by_value (entry.surface == surface) ref
   by_value true t k later = (zero, omega arith, eqb-true entry.surface surface t)
   by_value false t k later = let r = later k in (suc r.0, omega (arith, r.1), r.2)
 
-is_visible_one : (surface : ℕ) (visible : Option ℕ) → option_map_or (λ object. object == surface) visible false ≡ true → visible ≡ Some surface
+pub is_visible_one : (surface : ℕ) (visible : Option ℕ) → option_map_or (λ object. object == surface) visible false ≡ true → visible ≡ Some surface
 is_visible_one surface None e = absurd (let k : false ≡ true = e in cc)
 is_visible_one surface (Some other) e = ap (λ object. Some object) (eqb-true other surface e)
 

@@ -19,3 +19,4 @@ pub mod SoundLooks
 pub mod SoundJobs
 pub mod SoundSteps
 pub mod Agree
+pub mod LiveQueues

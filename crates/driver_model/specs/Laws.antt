@@ -1,5 +1,5 @@
 -- What follows from the definitions.
-use Rattle.std.specs.Prelude.{◌≡◌, ◌≢◌, ◌↔◌, ℕ, Bool, true, false, List, ◌++◌, map, filter_map, AllPairs, slice_get, Option, Some, None, Err, ⊤}
+use Rattle.std.specs.Prelude.{◌≡◌, ◌≢◌, ◌↔◌, ℕ, Bool, true, false, not, List, ◌++◌, map, filter_map, AllPairs, slice_get, Option, Some, None, Err, ⊤}
 use Rattle.std.specs.List.{AllByRecursion}
 use Rattle.cb_types.specs.AcceptedInfo.{takes_weights}
 use Rattle.cb_types.specs.SizeMbs.{IsWithinLimits}
@@ -9,6 +9,7 @@ use Rattle.vd_status.specs.declared.refusal.Refusal.{Refusal}
 use Rattle.vd_status.specs.declared.refusal.Refusal.TheVariants.{Bitstream, Incomplete, OutOfMemory}
 use Rattle.driver_model.specs.Answers.{Reply}
 use Rattle.driver_model.specs.Histories.{IsLegal, IsStateOf}
+use Rattle.driver_model.specs.Kept.{is_in_queue}
 use Rattle.driver_model.specs.Objects.{Content, DecoderObject}
 use Rattle.driver_model.specs.Parts.{name_given}
 use Rattle.driver_model.specs.Presented.{is_idle_at, queues_of}
@@ -91,6 +92,11 @@ IdleSurfacesAreNotNamed =
     (s : State) (surface : ℕ)
     → (is_idle_at s surface ≡ true)
     ↔ ((place : ℕ) (queue : Queue ℕ) → slice_get (queues_of s) place ≡ Some queue → Names queue surface → ⊥)
+
+-- So it is of the live queues alone in the state of a legal history.
+abbrev pub LiveQueuesDecide : Type 0
+LiveQueuesDecide =
+    (history : List Item) (s : State) → IsStateOf history s → (surface : ℕ) → is_in_queue s surface ≡ not (is_idle_at s surface)
 
 -- In the state of a legal history each queue is sound: it names output surfaces of its own device, and none once it is destroyed.
 abbrev pub QueuesAreSound : Type 0

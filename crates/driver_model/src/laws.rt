@@ -1,5 +1,5 @@
 // What follows from the definitions.
-ghost use Rattle.driver_model.specs.Laws.{FrontsAreLegal, HistoriesHaveSizes, HistoriesLeadToOneState, IdleSurfacesAreNotNamed, LimitsAreOne, NamesAreGiven, NamesAreGivenOnce, OneProfileTakesWeights, QueuesAreSound, RefusalsAreOne, RefusalsLeaveTheState, StepsLeaveOneState, WaitingCallsAreNotAnswered};
+ghost use Rattle.driver_model.specs.Laws.{FrontsAreLegal, HistoriesHaveSizes, HistoriesLeadToOneState, IdleSurfacesAreNotNamed, LimitsAreOne, LiveQueuesDecide, NamesAreGiven, NamesAreGivenOnce, OneProfileTakesWeights, QueuesAreSound, RefusalsAreOne, RefusalsLeaveTheState, StepsLeaveOneState, WaitingCallsAreNotAnswered};
 
 /// The state behind a call is settled by the state before it, the caller, the call and its reply.
 pub fn steps_leave_one_state()
@@ -32,9 +32,11 @@ pub fn waiting_calls_are_not_answered()
     ensures { WaitingCallsAreNotAnswered }
 {}
 
-/// A surface is idle exactly where no queue has an entry of it or shows it.
+/// A surface is idle exactly where no queue has an entry of it or shows it, and in the state of a legal history
+/// where no live one does.
 pub fn idle_surfaces_are_not_named()
-    ensures { IdleSurfacesAreNotNamed }
+    ensures unnamed { IdleSurfacesAreNotNamed }
+    ensures live { LiveQueuesDecide }
 {}
 
 /// Where a legal history leads, each queue names output surfaces of its own device, at most 64 entries wait

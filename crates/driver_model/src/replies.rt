@@ -21,7 +21,7 @@ pub struct Capabilities {
 /// How a surface stands to the presentation queues (vdpau.h, VdpPresentationQueueStatus).
 #[derive(Clone, Copy, Debug, PartialEq, Eq)]
 pub enum PresentStatus {
-    /// VDP_PRESENTATION_QUEUE_STATUS_IDLE: in no queue.
+    /// VDP_PRESENTATION_QUEUE_STATUS_IDLE: neither on display nor in line.
     Idle,
     /// VDP_PRESENTATION_QUEUE_STATUS_QUEUED: in line on some queue.
     Queued,

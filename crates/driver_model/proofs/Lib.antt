@@ -20,3 +20,4 @@ pub mod SoundJobs
 pub mod SoundSteps
 pub mod Agree
 pub mod LiveQueues
+pub mod FoundSizes

@@ -2,12 +2,11 @@
 use Rattle.std.proofs.Common.{◌≡◌, inl, inr, ℕ, zero, suc, ◌==◌, Bool, true, false, not, ◌||◌, if◌then◌else◌, List, [], ◌∷◌, filter_map, slice_get, Option, Some, None, MatchOption, refl, ap, sym, ◌∙◌, subst}
 use Rattle.std.specs.List.{cons_option, list_any}
 use Rattle.present_queue.specs.Queue.{Names, Queue, holds, shows}
-use Rattle.driver_model.specs.Kept.{is_in_queue, live_queue, live_queues_of}
+use Rattle.driver_model.specs.Kept.{live_queue}
 use Rattle.driver_model.specs.Laws.{LiveQueuesDecide}
 use Rattle.driver_model.specs.Objects.{Object}
-use Rattle.driver_model.specs.Presented.{is_idle_at, queue_in, queues_of}
+use Rattle.driver_model.specs.Presented.{queue_in, queues_of}
 use Rattle.driver_model.specs.Sound.{AreSound, IsSoundQueue}
-use Rattle.driver_model.specs.States.{State}
 use Rattle.driver_model.proofs.Leading.{has_entry, is_visible_one}
 use Rattle.driver_model.proofs.SoundSteps.{states_are_sound}
 

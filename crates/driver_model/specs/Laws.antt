@@ -10,7 +10,7 @@ use Rattle.vd_status.specs.declared.refusal.Refusal.TheVariants.{Bitstream, Inco
 use Rattle.driver_model.specs.Answers.{Reply}
 use Rattle.driver_model.specs.Histories.{IsLegal, IsStateOf}
 use Rattle.driver_model.specs.Kept.{is_in_queue}
-use Rattle.driver_model.specs.Objects.{Content, DecoderObject}
+use Rattle.driver_model.specs.Objects.{Content, VideoObject, OutputObject, DecoderObject, MixerObject}
 use Rattle.driver_model.specs.Parts.{name_given}
 use Rattle.driver_model.specs.Presented.{is_idle_at, queues_of}
 use Rattle.driver_model.specs.Sizes.{is_within_limits}
@@ -23,9 +23,12 @@ use Rattle.driver_model.specs.declared.items.Item.{Item}
 use Rattle.driver_model.specs.declared.items.Item.TheVariants.{Called, Ended}
 use Rattle.driver_model.specs.declared.numbers.TheConstants.{WEIGHTED_BASELINE}
 
--- A decoder's size is one that VdpDecoderCreate takes.
+-- The size of an object that has one is within the limits.
 abbrev pub HasSize : Content → Type 0
+HasSize (VideoObject surface) = IsWithinLimits surface.size
+HasSize (OutputObject surface) = IsWithinLimits surface.size
 HasSize (DecoderObject decoder) = IsWithinLimits decoder.size
+HasSize (MixerObject mixer) = IsWithinLimits mixer.size
 HasSize _ = ⊤
 
 abbrev pub HasSizes : State → Type 0
@@ -37,7 +40,7 @@ StepsLeaveOneState =
     (old new other : State) (caller : List ℕ) (call : Call) (reply : Reply)
     → HasSizes old → Step old caller call reply new → Step old caller call reply other → new ≡ other
 
--- A history leads to one state at most, and each decoder there has a size within the limits.
+-- A history leads to one state at most, and each object there that has a size has one within the limits.
 abbrev pub HistoriesLeadToOneState : Type 0
 HistoriesLeadToOneState = (history : List Item) (s t : State) → IsStateOf history s → IsStateOf history t → s ≡ t
 
@@ -93,7 +96,7 @@ IdleSurfacesAreNotNamed =
     → (is_idle_at s surface ≡ true)
     ↔ ((place : ℕ) (queue : Queue ℕ) → slice_get (queues_of s) place ≡ Some queue → Names queue surface → ⊥)
 
--- So it is of the live queues alone in the state of a legal history.
+-- In the state of a legal history the live queues alone decide that, since a destroyed one names nothing.
 abbrev pub LiveQueuesDecide : Type 0
 LiveQueuesDecide =
     (history : List Item) (s : State) → IsStateOf history s → (surface : ℕ) → is_in_queue s surface ≡ not (is_idle_at s surface)

@@ -6,8 +6,8 @@ pub fn steps_leave_one_state()
     ensures { StepsLeaveOneState }
 {}
 
-/// A history leads to one state at most, whose decoders have sizes within the limits, and each front of a
-/// legal history is legal.
+/// A history leads to one state at most, whose objects have sizes within the limits, and each front of a legal
+/// history is legal.
 pub fn histories_lead_to_one_state()
     ensures one { HistoriesLeadToOneState }
     ensures sizes { HistoriesHaveSizes }
@@ -45,7 +45,8 @@ pub fn queues_are_sound()
     ensures { QueuesAreSound }
 {}
 
-/// The limits of sizes are those within which pictures are decoded, and so is the profile that has weights.
+/// The limits of sizes, and which profile may have weighted_pred_flag, are the same here as where pictures are
+/// decoded.
 pub fn numbers_agree()
     ensures sizes { LimitsAreOne }
     ensures weights { OneProfileTakesWeights }

@@ -25,7 +25,7 @@ module _ (script : List ScriptLine) (stream period : ℕ) where
   abbrev pub tick_of : ℕ → Option ℕ
   tick_of number = tick_from ((number + 1) * period) script
 
-  -- the same, where it stands before the line that preempts the stream
+  -- the same among the lines ahead of the stream's preemption
   abbrev pub tick_in_time : ℕ → Option ℕ
   tick_in_time number = tick_from ((number + 1) * period) (before_preemption stream script)
 

@@ -1,4 +1,4 @@
--- What the changes of a state's objects keep: their names, and the decoders' sizes.
+-- What the changes of a state's objects keep: their names and sizes.
 use Rattle.std.proofs.Common.{◌≡◌, ◌==◌, ℕ, zero, suc, Bool, true, false, if◌then◌else◌, List, [], ◌∷◌, ◌++◌, map, refl, ap, ◌∙◌}
 use Rattle.std.specs.List.{AllByRecursion}
 use Rattle.driver_model.specs.Clock.{Due, all_shown, destroyed_on, let_go, shown, with_flip, with_tick}
@@ -76,7 +76,7 @@ Sizes-destroyed on = Sizes-map (destroyed_on on) (λ object. destroyed_on-size (
 HasSize-with_flip : (queue time : ℕ) (content : Content) → HasSize content → HasSize (with_flip queue time content)
 HasSize-with_flip queue time (DeviceObject of) size = size
 HasSize-with_flip queue time (VideoObject of) size = size
-HasSize-with_flip queue time (OutputObject of) size = tt
+HasSize-with_flip queue time (OutputObject of) size = size
 HasSize-with_flip queue time (DecoderObject of) size = size
 HasSize-with_flip queue time (MixerObject of) size = size
 HasSize-with_flip queue time (QueueObject of) size = size

@@ -1,18 +1,18 @@
 -- What follows for whole histories.
-use Rattle.std.proofs.Common.{◌≡◌, ◌≢◌, inl, inr, ℕ, zero, suc, ◌<◌, ◌==◌, Bool, true, false, not, ◌||◌, List, [], ◌∷◌, ◌++◌, length, map, get_or, slice_get, Option, Some, None, Err, refl, ap, sym, ◌∙◌, subst, arith, AllPairs, filter_map}
+use Rattle.std.proofs.Common.{◌≡◌, ◌≢◌, inl, inr, ℕ, zero, suc, ◌<◌, ◌==◌, Bool, true, false, not, ◌||◌, List, [], ◌∷◌, ◌++◌, length, map, get_or, slice_get, Contains, Option, Some, None, Err, refl, ap, sym, ◌∙◌, subst, arith, AllPairs, filter_map}
 use Rattle.std.proofs.lemmas.List.{append-nil, append_assoc}
 use Rattle.std.proofs.Math.ListN.{get_or-append, length-append}
 use Rattle.std.proofs.Math.Seq.{get_or-append_seam}
-use Rattle.std.proofs.lemmas.Bool.{cases_lt, eq-eqb}
+use Rattle.std.proofs.lemmas.Bool.{cases_lt, eq-eqb, eqb-true}
 use Rattle.std.specs.List.{cons_option, list_any}
 use Rattle.std.specs.Option.{option_map_or, option_to_list}
-use Rattle.present_queue.specs.Queue.{Queued, holds, shows}
+use Rattle.present_queue.specs.Queue.{Names, Queue, Queued, holds, shows}
 use Rattle.vd_status.specs.declared.refusal.Refusal.TheVariants.{OutOfMemory}
 use Rattle.driver_model.specs.Answers.{Reply}
 use Rattle.driver_model.specs.Histories.{Happens, Leads}
 use Rattle.driver_model.specs.Laws.{FrontsAreLegal, HasSizes, HistoriesHaveSizes, HistoriesLeadToOneState, IdleSurfacesAreNotNamed, NamesAreGiven, NamesAreGivenOnce, RefusalsAreOne, RefusalsLeaveTheState, StepsLeaveOneState, given_by}
 use Rattle.driver_model.specs.Objects.{Object}
-use Rattle.driver_model.specs.Presented.{is_queued_at, is_visible_at, queues_of}
+use Rattle.driver_model.specs.Presented.{is_idle_at, is_queued_at, is_visible_at, queues_of}
 use Rattle.driver_model.specs.States.{State, counted, empty_state, is_given}
 use Rattle.driver_model.specs.Steps.{Step}
 use Rattle.driver_model.specs.declared.calls.Call.{Call}
@@ -176,8 +176,8 @@ not_true : (b : Bool) → not b ≡ true → b ≡ false
 not_true true e = absurd (let k : false ≡ true = e in cc)
 not_true false e = refl
 
-pub idle_surfaces_are_not_named : IdleSurfacesAreNotNamed
-idle_surfaces_are_not_named s surface place queue idle at_place names_it =
+idle_is_unnamed : (s : State) (surface : ℕ) → is_idle_at s surface ≡ true → (place : ℕ) (queue : Queue ℕ) → slice_get (queues_of s) place ≡ Some queue → Names queue surface → ⊥
+idle_is_unnamed s surface idle place queue at_place names_it =
     let parts = or_parts (is_visible_at s surface) (is_queued_at s surface) (not_true _ idle) in
     let not_shown : shows (λ object. object == surface) queue ≡ false = none_at (shows (λ object. object == surface)) (queues_of s) place queue parts.0 at_place in
     let not_held : holds (λ object. object == surface) queue ≡ false = none_at (holds (λ object. object == surface)) (queues_of s) place queue parts.1 at_place in
@@ -187,3 +187,36 @@ idle_surfaces_are_not_named s surface place queue idle at_place names_it =
           let here : (surface == surface) ≡ false = subst (λ (o : Option ℕ). option_map_or (λ object. object == surface) o false ≡ false) is not_shown in
           eq_but_not surface surface refl here
     ]
+
+-- some item passes the test, and this is one
+some_at : {X : Type 0} (test : X → Bool) (xs : List X) → list_any test xs ≡ true → (place : ℕ) × (x : X) × (slice_get xs place ≡ Some x) × (test x ≡ true)
+some_at test [] e = absurd (let k : false ≡ true = e in cc)
+some_at {X} test (y ∷ xs) e = by_value (test y) refl e (λ k. some_at test xs k) where
+  by_value : (b : Bool) → test y ≡ b → (b || list_any test xs) ≡ true
+      → (list_any test xs ≡ true → (place : ℕ) × (x : X) × (slice_get xs place ≡ Some x) × (test x ≡ true))
+      → (place : ℕ) × (x : X) × (slice_get (y ∷ xs) place ≡ Some x) × (test x ≡ true)
+  by_value true t k later = (zero, y, refl, t)
+  by_value false t k later = let r = later k in (suc r.0, r.1, r.2, r.3)
+
+pub has_entry : (surface : ℕ) (entries : List (Queued ℕ)) → list_any (λ entry. entry.surface == surface) entries ≡ true → Contains (map (λ entry. entry.surface) entries) surface
+has_entry surface [] e = absurd (let k : false ≡ true = e in cc)
+has_entry surface (entry ∷ others) e = by_value (entry.surface == surface) refl e (λ k. has_entry surface others k) where
+  by_value : (b : Bool) → (entry.surface == surface) ≡ b → (b || list_any (λ other. other.surface == surface) others) ≡ true
+      → (list_any (λ other. other.surface == surface) others ≡ true → Contains (map (λ other. other.surface) others) surface)
+      → Contains (map (λ other. other.surface) (entry ∷ others)) surface
+  by_value true t k later = (zero, omega arith, eqb-true entry.surface surface t)
+  by_value false t k later = let r = later k in (suc r.0, omega (arith, r.1), r.2)
+
+pub is_visible_one : (surface : ℕ) (visible : Option ℕ) → option_map_or (λ object. object == surface) visible false ≡ true → visible ≡ Some surface
+is_visible_one surface None e = absurd (let k : false ≡ true = e in cc)
+is_visible_one surface (Some other) e = ap (λ object. Some object) (eqb-true other surface e)
+
+unnamed_is_idle : (s : State) (surface : ℕ) → ((place : ℕ) (queue : Queue ℕ) → slice_get (queues_of s) place ≡ Some queue → Names queue surface → ⊥) → is_idle_at s surface ≡ true
+unnamed_is_idle s surface none = by_values (is_visible_at s surface) (is_queued_at s surface) refl refl where
+  by_values : (a b : Bool) → is_visible_at s surface ≡ a → is_queued_at s surface ≡ b → not (a || b) ≡ true
+  by_values true b v q = let r = some_at (shows (λ object. object == surface)) (queues_of s) v in absurd (none r.0 r.1 r.2 (inr (is_visible_one surface r.1.visible r.3)))
+  by_values false true v q = let r = some_at (holds (λ object. object == surface)) (queues_of s) q in absurd (none r.0 r.1 r.2 (inl (has_entry surface r.1.entries r.3)))
+  by_values false false v q = refl
+
+pub idle_surfaces_are_not_named : IdleSurfacesAreNotNamed
+idle_surfaces_are_not_named s surface = (idle_is_unnamed s surface, unnamed_is_idle s surface)

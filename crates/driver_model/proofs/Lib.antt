@@ -18,3 +18,6 @@ pub mod SoundTicks
 pub mod SoundLooks
 pub mod SoundJobs
 pub mod SoundSteps
+pub mod Agree
+pub mod LiveQueues
+pub mod FoundSizes

@@ -1,5 +1,5 @@
 -- Two renders of one submission from one state.
-use Rattle.std.proofs.Common.{◌≡◌, ℕ, zero, suc, ◌<◌, ◌≤◌, ◌==◌, Bool, true, false, not, List, [], ◌∷◌, length, get_or, Option, Some, None, Ok, Err, refl, ap, sym, ◌∙◌, subst, arith}
+use Rattle.std.proofs.Common.{◌≡◌, ℕ, zero, suc, ◌<◌, ◌≤◌, Bool, true, false, not, List, [], ◌∷◌, length, get_or, Option, Some, None, Ok, Err, refl, ap, sym, ◌∙◌, subst, arith}
 use Rattle.std.proofs.lemmas.Bool.Decides.{nat_tests}
 use Rattle.std.specs.List.{position, position_or_len}
 use Rattle.cb_types.specs.AcceptedInfo.{IsAcceptedBySome, accepted_fields}
@@ -12,18 +12,18 @@ use Rattle.decoder_render.specs.declared.outcome.Outcome.TheVariants as outcome
 use Rattle.decoder_render.proofs.OneOutcome.{outcome_one, whole_one}
 use Rattle.decoder_render.proofs.OneReading.{payloads_one}
 use Rattle.vd_plane.specs.declared.picture.Picture.{Picture}
-use Rattle.vd_status.specs.declared.refusal.Refusal.TheVariants.{BadInfo, BadSize, SliceCount, TargetIsReference}
+use Rattle.vd_status.specs.declared.refusal.Refusal.TheVariants.{BadInfo, BadSize, TargetIsReference}
 use Rattle.driver_model.specs.Answers.{Goes, Reply}
 use Rattle.driver_model.specs.Jobs.{reply_of}
 use Rattle.driver_model.specs.Laws.{HasSizes}
 use Rattle.driver_model.specs.Objects.{Decoder, VideoSurface, as_decoder, as_video}
 use Rattle.driver_model.specs.Refusals.{Looked, ◌>>=◌, ◌>>◌, first_handle, further_handle, refused_if}
-use Rattle.driver_model.specs.Renders.{Decodes, Render, Rendering, decoded, given_now, info_taken, is_of_other_size, is_own_reference, references, render, rendering}
+use Rattle.driver_model.specs.Renders.{Counts, Decodes, Render, Rendering, decoded, given_now, info_taken, is_of_other_size, is_own_reference, references, render, rendering, units_counted}
 use Rattle.driver_model.specs.States.{State, Found, named, with_note}
 use Rattle.driver_model.specs.Surfaces.{with_picture}
 use Rattle.driver_model.proofs.Looks.{HasSize-named, err_not_ok, first_handle-Ok, ok_is, then_ok, unless_ok}
 use Rattle.driver_model.proofs.Pictures.{picture_one}
-use Rattle.driver_model.proofs.SameReplies.{TwoSteps, both_refused, err_one}
+use Rattle.driver_model.proofs.SameReplies.{TwoSteps, both_refused, err_one, goes_two}
 
 -- a test that fails is the first, or comes behind the first
 fails_first : (tests : List Bool) → (k : ℕ) → k < length tests → get_or tests k false ≡ false → position_or_len not tests ≤ k
@@ -53,13 +53,10 @@ pub record HasTaken (s : State) (info : PictureInfo) (on : Rendering) : Type 0 w
 abbrev found_of : Found Decoder → Found VideoSurface → List (Option (Found VideoSurface)) → Rendering
 found_of decoder target references = record { decoder = decoder; target = target; references = references }
 
-module _ (s : State) (decoder target : ℕ) (info : PictureInfo) (units : ℕ) where
-  -- what is looked at behind the info, the sizes, the references, and the handles
-  behind_info : Rendering → Looked Rendering
-  behind_info on = refused_if (not (units == info.slice_count)) (SliceCount units) >> Ok on
-
+module _ (s : State) (decoder target : ℕ) (info : PictureInfo) where
+  -- what is looked at behind the sizes, the references, and the handles
   behind_sizes : Rendering → Looked Rendering
-  behind_sizes on = info_taken on.decoder.value info >> behind_info on
+  behind_sizes on = info_taken on.decoder.value info >> Ok on
 
   behind_own : Rendering → Looked Rendering
   behind_own on = refused_if (is_of_other_size on) BadSize >> behind_sizes on
@@ -86,15 +83,14 @@ module _ (s : State) (decoder target : ℕ) (info : PictureInfo) (units : ℕ) w
       let is : found_of first.0 second.0 third.0 ≡ on = ok_is (found_of first.0 second.0 third.0) on third.2 in
       first_handle-Ok s (named s as_decoder decoder) first.0 first.1 ∙ ap (λ (r : Rendering). Some r.decoder) is
 
-  taken : (on : Rendering) → render s decoder target info units ≡ Ok on → HasTaken s info on
-  unfolding behind_info behind_sizes behind_own behind_handles
+  taken : (on : Rendering) → render s decoder target info ≡ Ok on → HasTaken s info on
+  unfolding behind_sizes behind_own behind_handles
   taken on h =
       let found = then_ok (rendering s decoder target info.references) behind_handles on h in
       let own = unless_ok (refused_if (is_own_reference found.0) TargetIsReference) (behind_own found.0) on found.2 in
       let other = unless_ok (refused_if (is_of_other_size found.0) BadSize) (behind_sizes found.0) on own.1 in
-      let fields = unless_ok (info_taken found.0.decoder.value info) (behind_info found.0) on other.1 in
-      let count = unless_ok (refused_if (not (units == info.slice_count)) (SliceCount units)) (Ok found.0) on fields.1 in
-      let same : found.0 ≡ on = ok_is found.0 on count.1 in
+      let fields = unless_ok (info_taken found.0.decoder.value info) (Ok found.0) on other.1 in
+      let same : found.0 ≡ on = ok_is found.0 on fields.1 in
       let of : Decoder = found.0.decoder.value in
       record {
         accepted = (
@@ -130,19 +126,26 @@ module _ (old new other : State) (caller : List ℕ) (reply again : Reply) (info
       let replies : reply ≡ again = p.tells ∙ (ap reply_of one ∙ sym q.tells) in
       record { one_state = λ e. state; one_refusal = λ a b ea eb. err_one a b (sym ea ∙ (replies ∙ eb)) }
 
+module _ (old new other : State) (caller : List ℕ) (reply again : Reply) (info : PictureInfo) (bytes : List ℕ) where
+  -- the payloads of both are the same, and so is the look at their number
+  counts_two : (on : Rendering) → IsAcceptedBySome info → IsWithinLimits on.decoder.value.size → Counts old reply new caller info bytes on → Counts old again other caller info bytes on → TwoSteps new other reply again
+  counts_two on accepted limits p q =
+      let one : q.payloads ≡ p.payloads = payloads_one bytes q.payloads p.payloads q.units p.units in
+      let looked : Looked (Unit {0}) = units_counted info (length p.payloads) in
+      let also : Goes old again other looked (λ nothing. Decodes old again other caller info p.payloads on) =
+      subst (λ (l : List (Option (List ℕ))). Goes old again other (units_counted info (length l)) (λ nothing. Decodes old again other caller info l on)) one q.goes in
+      goes_two old new other reply again looked (λ nothing. Decodes old reply new caller info p.payloads on) (λ nothing. Decodes old again other caller info p.payloads on)
+      (λ nothing a b. decodes_two old new other caller reply again info p.payloads on accepted limits a b) p.goes also
+
   -- the same as `goes_two`, of what was looked at
   goes_at : (looked : Looked Rendering) → ((on : Rendering) → looked ≡ Ok on → IsAcceptedBySome info × IsWithinLimits on.decoder.value.size)
-      → Goes old reply new looked (Decodes old reply new caller info payloads) → Goes old again other looked (Decodes old again other caller info payloads) → TwoSteps new other reply again
-  goes_at (Ok on) facts p q = decodes_two on (facts on refl).0 (facts on refl).1 p q
+      → Goes old reply new looked (Counts old reply new caller info bytes) → Goes old again other looked (Counts old again other caller info bytes) → TwoSteps new other reply again
+  goes_at (Ok on) facts p q = counts_two on (facts on refl).0 (facts on refl).1 p q
   goes_at (Err refusal) facts p q = both_refused old new other reply again refusal p q
 
 pub render_two : (old new other : State) (caller : List ℕ) (reply again : Reply) (decoder target : ℕ) (info : PictureInfo) (bytes : List ℕ) → HasSizes old
     → Render old reply new caller decoder target info bytes → Render old again other caller decoder target info bytes → TwoSteps new other reply again
 render_two old new other caller reply again decoder target info bytes sizes p q =
-    let looked : Looked Rendering = render old decoder target info (length p.payloads) in
-    let one : q.payloads ≡ p.payloads = payloads_one bytes q.payloads p.payloads q.units p.units in
-    let also : Goes old again other looked (Decodes old again other caller info p.payloads) =
-    subst (λ (l : List (Option (List ℕ))). Goes old again other (render old decoder target info (length l)) (Decodes old again other caller info l)) one q.goes in
-    goes_at old new other caller reply again info p.payloads looked
-    (λ on h. let t = taken old decoder target info (length p.payloads) on h in (t.accepted, t.limits sizes))
-    p.goes also
+    goes_at old new other caller reply again info bytes (render old decoder target info)
+    (λ on h. let t = taken old decoder target info on h in (t.accepted, t.limits sizes))
+    p q

@@ -12,7 +12,7 @@ use Rattle.driver_model.specs.Renders.{info_taken, is_of_other_size, is_own_refe
 use Rattle.driver_model.specs.Sizes.{is_same_size}
 use Rattle.driver_model.specs.declared.numbers.TheConstants.{FRAME}
 use Rattle.driver_model.proofs.SoundLooks.{Stands, further-Ok, named_stands}
-use Rattle.vd_status.specs.declared.refusal.Refusal.TheVariants.{SliceCount, TargetIsReference}
+use Rattle.vd_status.specs.declared.refusal.Refusal.TheVariants.{TargetIsReference}
 
 module _ (s : State) where
   abbrev mixing_of : Found VideoMixer → Found VideoSurface → Found OutputSurface → Mixing
@@ -37,18 +37,16 @@ module _ (s : State) where
   abbrev rendering_of : Found Decoder → Found VideoSurface → List (Option (Found VideoSurface)) → Rendering
   rendering_of one two three = record { decoder = one; target = two; references = three }
 
-  pub render_stands : (handle surface : ℕ) (info : PictureInfo) (units : ℕ) (on : Rendering) → render s handle surface info units ≡ Ok on → Stands s as_video on.target
-  render_stands handle surface info units on h =
-      let counted : Rendering → Looked Rendering = λ at. refused_if (not (units == info.slice_count)) (SliceCount units) >> Ok at in
-      let taken : Rendering → Looked Rendering = λ at. info_taken at.decoder.value info >> counted at in
+  pub render_stands : (handle surface : ℕ) (info : PictureInfo) (on : Rendering) → render s handle surface info ≡ Ok on → Stands s as_video on.target
+  render_stands handle surface info on h =
+      let taken : Rendering → Looked Rendering = λ at. info_taken at.decoder.value info >> Ok at in
       let sized : Rendering → Looked Rendering = λ at. refused_if (is_of_other_size at) BadSize >> taken at in
       let own : Rendering → Looked Rendering = λ at. refused_if (is_own_reference at) TargetIsReference >> sized at in
       let a = then_ok (rendering s handle surface info.references) own on h in
       let b = unless_ok (refused_if (is_own_reference a.0) TargetIsReference) (sized a.0) on a.2 in
       let c = unless_ok (refused_if (is_of_other_size a.0) BadSize) (taken a.0) on b.1 in
-      let d = unless_ok (info_taken a.0.decoder.value info) (counted a.0) on c.1 in
-      let e = unless_ok (refused_if (not (units == info.slice_count)) (SliceCount units)) (Ok a.0) on d.1 in
-      let same : a.0 ≡ on = ok_is a.0 on e.1 in
+      let d = unless_ok (info_taken a.0.decoder.value info) (Ok a.0) on c.1 in
+      let same : a.0 ≡ on = ok_is a.0 on d.1 in
       let last : Found Decoder → Found VideoSurface → List (Option (Found VideoSurface)) → Looked Rendering = λ one two three. Ok (rendering_of one two three) in
       let third : Found Decoder → Found VideoSurface → Looked Rendering = λ one two. references s one.device 2 info.references >>= last one two in
       let second : Found Decoder → Looked Rendering = λ one. further_handle 1 one.device (named s as_video surface) >>= third one in

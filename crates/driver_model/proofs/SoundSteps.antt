@@ -1,6 +1,7 @@
 -- Each step leaves the queues sound.
 use Rattle.std.proofs.Common.{◌≡◌, inl, inr, ℕ, true, List, [], ◌∷◌, ◌++◌, length, Option, Some, None, Ok, Err, MatchOption, refl, ap, sym, ◌∙◌, subst}
 use Rattle.std.specs.Option.{is_some}
+use Rattle.cb_types.specs.declared.picture_info.PictureInfo.{PictureInfo}
 use Rattle.decoder_render.specs.declared.outcome.Outcome.{Outcome}
 use Rattle.decoder_render.specs.declared.outcome.Outcome.TheVariants as outcome
 use Rattle.present_queue.specs.Queue.{Queued, answer_to_display, displayed, promised}
@@ -11,9 +12,9 @@ use Rattle.driver_model.specs.Creates.{Creates, IsNewVideo, decoder_create, devi
 use Rattle.driver_model.specs.Mixes.{mix}
 use Rattle.driver_model.specs.Objects.{Content, DeviceObject, VideoObject, OutputObject, MixerObject, Device, VideoSurface, OutputSurface, Decoder, VideoMixer, Object, PresentationQueue, as_decoder, as_device, as_mixer, as_output, as_queue, as_video}
 use Rattle.driver_model.specs.Queues as queues
-use Rattle.driver_model.specs.Queues.{Presented, presented, queue_display}
+use Rattle.driver_model.specs.Queues.{QueueAndSurface, presented, queue_display}
 use Rattle.driver_model.specs.Refusals.{Looked, first_handle}
-use Rattle.driver_model.specs.Renders.{Rendering, decoded, render}
+use Rattle.driver_model.specs.Renders.{Counts, Decodes, Rendering, decoded, render, units_counted}
 use Rattle.driver_model.specs.Sound.{AreSound, IsOutputOf, IsSoundObject}
 use Rattle.driver_model.specs.States.{State, Found, destroyed, named, with_content, with_object}
 use Rattle.driver_model.specs.Steps.{Does}
@@ -64,7 +65,7 @@ module _ (s : State) where
   queue_promised on time is =
       sound_queue s on.place is.0 is.1 on.value (promised on.value.queue time) is.2 is.4 (promised_is_sound s.objects is.0.device on.value.queue time) (queue_is_no_output is.0.content on.value is.4)
 
-  queue_displayed : (on : Presented) (entry : Queued ℕ) → Stands s as_queue on.queue → IsOutputOf s.objects on.queue.device entry.surface → answer_to_display on.queue.value.queue entry.earliest ≡ Ok tt
+  queue_displayed : (on : QueueAndSurface) (entry : Queued ℕ) → Stands s as_queue on.queue → IsOutputOf s.objects on.queue.device entry.surface → answer_to_display on.queue.value.queue entry.earliest ≡ Ok tt
       → AreSound s.objects → AreSound (queues.with_queue s on.queue (displayed on.queue.value.queue entry)).objects
   queue_displayed on entry is output answer =
       sound_queue s on.queue.place is.0 is.1 on.queue.value (displayed on.queue.value.queue entry) is.2 is.4
@@ -96,6 +97,10 @@ module _ (old new : State) (caller : List ℕ) (reply : Reply) where
   decoded_sound on picture outcome.Ok is sound = video_with old on.target _ is sound
   decoded_sound on picture (outcome.Bitstream slice) is sound = sound
   decoded_sound on picture (outcome.Incomplete macroblocks) is sound = sound
+
+  counts_sound : (info : PictureInfo) (bytes : List ℕ) (on : Rendering) → Stands old as_video on.target → AreSound old.objects → Counts old reply new caller info bytes on → AreSound new.objects
+  counts_sound info bytes on is sound p =
+      goes_sound (units_counted info (length p.payloads)) (λ nothing. Decodes old reply new caller info p.payloads on) (λ nothing h a. left _ a.after (decoded_sound on a.picture a.outcome is sound)) sound p.goes
 
   wish_sound : (place : Option ℕ) → AreSound old.objects → MatchOption place ⊥ (λ found. Tells old reply new (Holds (Some found))) → AreSound new.objects
   wish_sound None sound p = absurd p
@@ -148,7 +153,7 @@ module _ (old new : State) (caller : List ℕ) (reply : Reply) where
   does_sound (call.WaitUntil wishes) sound p = goes_sound (first_wish old wishes) _ (λ on h a. wish_sound on sound a) sound p
   does_sound call.Kept sound p = left old p.1 sound
   does_sound (call.Render decoder target info bytes) sound p =
-      goes_sound (render old decoder target info (length p.payloads)) _ (λ on h a. left _ a.after (decoded_sound on a.picture a.outcome (render_stands old decoder target info (length p.payloads) on h) sound)) sound p.goes
+      goes_sound (render old decoder target info) (Counts old reply new caller info bytes) (λ on h a. counts_sound info bytes on (render_stands old decoder target info on h) sound a) sound p
   does_sound (call.Mix mixer structure video output) sound p =
       goes_sound (mix old mixer structure video output) _ (λ on h a. left _ a.leaves.1 (output_with old on.output (record on.output.value { bytes = a.bytes }) (mix_stands old mixer structure video output on h) sound)) sound p
 

@@ -1,5 +1,7 @@
 -- A call that waits isn't answered.
-use Rattle.std.proofs.Common.{◌≡◌, inl, inr, ℕ, Bool, true, false, not, List, length, Option, Some, None, Ok, Err, MatchOption, is_none, refl, ap, sym, ◌∙◌, subst}
+use Rattle.std.proofs.Common.{◌≡◌, inl, inr, ℕ, Bool, true, false, not, List, length, Option, Some, None, Ok, Err, IsOkAnd, MatchOption, is_none, refl, ap, sym, ◌∙◌, subst}
+use Rattle.cb_types.specs.declared.picture_info.PictureInfo.{PictureInfo}
+use Rattle.decoder_render.specs.Submission.{ArePayloads}
 use Rattle.decoder_render.proofs.OneReading.{payloads_one}
 use Rattle.driver_model.specs.Answers.{Goes, Reply, Tells}
 use Rattle.driver_model.specs.Clock.{advance, is_tick_held}
@@ -8,7 +10,7 @@ use Rattle.driver_model.specs.Mixes.{is_mix_held, mix}
 use Rattle.driver_model.specs.Presented.{is_idle_at}
 use Rattle.driver_model.specs.Queues.{presented}
 use Rattle.driver_model.specs.Refusals.{Looked}
-use Rattle.driver_model.specs.Renders.{is_render_held, render}
+use Rattle.driver_model.specs.Renders.{Counts, Rendering, is_render_held, render, units_counted}
 use Rattle.driver_model.specs.States.{State, is_out}
 use Rattle.driver_model.specs.Steps.{Does}
 use Rattle.driver_model.specs.Surfaces.{output_bits, video_bits}
@@ -31,6 +33,15 @@ module _ (old new : State) (caller : List ℕ) (reply : Reply) where
   wish_holds_there None h = absurd h
   wish_holds_there (Some place) h = refl
 
+  -- a render waits behind its last look, the one at the bytes
+  render_held : (info : PictureInfo) (bytes : List ℕ) (looked : Looked Rendering)
+      → IsOkAnd looked (λ on. (payloads : List (Option (List ℕ))) × ArePayloads bytes payloads × FoundAnd (units_counted info (length payloads)) (λ nothing. is_render_held old on))
+      → Goes old reply new looked (Counts old reply new caller info bytes) → ⊥
+  render_held info bytes (Ok on) waits p =
+      held (units_counted info (length p.payloads)) (λ nothing. is_render_held old on) _ (λ nothing a. a.at_home)
+      (subst (λ (l : List (Option (List ℕ))). FoundAnd (units_counted info (length l)) (λ nothing. is_render_held old on)) (payloads_one bytes waits.0 p.payloads waits.1 p.units) waits.2) p.goes
+  render_held info bytes (Err refusal) waits p = waits
+
   does_not : (call : Call) → Waits old call → Does old caller call reply new → ⊥
   does_not (call.VideoGetBits surface format count) waits p = held (video_bits old surface format count) (λ on. is_out old on.place) _ (λ on a. a.0) waits p
   does_not (call.VideoPutBits surface format bytes) waits p = held (video_bits old surface format (length bytes)) (λ on. is_out old on.place) _ (λ on a. a.0) waits p
@@ -40,8 +51,7 @@ module _ (old new : State) (caller : List ℕ) (reply : Reply) where
   does_not (call.Advance device time) waits p = held (advance old device time) (λ on. is_tick_held old on.place time) _ (λ on a. a.0) waits p
   does_not (call.WaitUntil wishes) waits p = held (first_wish old wishes) is_none _ wish_holds_there waits p
   does_not (call.Render decoder target info bytes) waits p =
-      held (render old decoder target info (length p.payloads)) (is_render_held old) _ (λ on a. a.at_home)
-      (subst (λ (l : List (Option (List ℕ))). FoundAnd (render old decoder target info (length l)) (is_render_held old)) (payloads_one bytes waits.0 p.payloads waits.1 p.units) waits.2) p.goes
+      render_held info bytes (render old decoder target info) waits p
   does_not (call.Mix mixer structure video output) waits p = held (mix old mixer structure video output) (is_mix_held old) _ (λ on a. a.at_home) waits p
   does_not _ waits p = absurd waits
 

@@ -112,7 +112,7 @@ two_devices_are_legal = (
   ),
 )
 
--- The part of the second device, and that of the first with a job: a mark's place is counted in the part.
+-- The part of the second device, and that of the first with a job: a mark's place is that which its entry has in the part.
 second_part : part two_devices 1 ≡ says (0 ∷ []) call.DeviceCreate (Ok (Name 1)) ∷ says (0 ∷ []) (call.QueueCreate 1 3) (Ok (Name 2684354563)) ∷ says (0 ∷ []) (call.GetTime 2684354563) (Ok (Time 0)) ∷ []
 unfolding part_from
 second_part = refl

@@ -70,10 +70,11 @@ unfoldable pub all_shown : ℕ → List Due → List Object → List Object
 all_shown time [] objects = objects
 all_shown time (due ∷ later) objects = all_shown time later (shown time due objects)
 
--- what is known of a flip, with the surface's bytes of now
+-- stands for a surface where there is none, which is so of no queue's entry in a legal history
 abbrev pub no_output : OutputSurface
 no_output = record { format = 0; size = record { width = 0; height = 0 }; bytes = []; last_flip = None }
 
+-- what is told of a flip to this surface, with the bytes that it has now
 abbrev pub flip_with : State → ℕ → Due → OutputSurface → Flipped
 flip_with s time due of = record {
   queue = name_at s due.queue;
@@ -86,6 +87,7 @@ flip_with s time due of = record {
   bytes = of.bytes;
 }
 
+-- the same of the surface that stands at the place
 abbrev pub flip_of : State → ℕ → Due → Flipped
 flip_of s time due = flip_with s time due (unwrap_or (content_at s as_output due.surface) no_output)
 
@@ -95,7 +97,7 @@ ticked_at s on time =
     let timed : State = with_content s on.place (DeviceObject (record on.value { time = time })) in
     record timed { objects = all_shown time (all_due s on.place time) timed.objects }
 
--- A tick waits while a surface that it would show is out.
+-- No tick flips to a surface while a job writes it.
 abbrev pub is_tick_held : State → ℕ → ℕ → Bool
 is_tick_held s on time = list_any (λ due. is_out s due.surface) (all_due s on time)
 
@@ -111,7 +113,7 @@ destroyed_on on object =
     if object.device == on then record object { is_live = false; content = let_go object.content } else object
 
 module _ (old : State) (reply : Reply) (new : State) where
-  -- VdpDeviceDestroy: the device and all its objects aren't live any more
+  -- VdpDeviceDestroy takes down with the device whatever was created on it.
   abbrev pub DeviceDestroy : ℕ → Type 0
   DeviceDestroy handle =
       Goes old reply new (device_destroy old handle) (λ on.

@@ -1,4 +1,4 @@
--- The calls that make objects (vdpau.h, Vdp..Create).
+-- The calls that make objects (vdpau.h, Vdp..Create; vdpau_x11.h, VdpDeviceCreateX11).
 use Rattle.std.specs.Prelude.{◌≡◌, ◌⊎◌, ℕ, ◌≤◌, ◌==◌, Bool, true, false, not, ◌||◌, nat_lt, length, replicate, None, Ok}
 use Rattle.std.specs.Option.{is_some}
 use Rattle.handle_table.specs.Name.{kind_of}
@@ -32,16 +32,17 @@ live_queues s = live_count s (λ content. is_some (as_queue content))
 abbrev pub handles_full : State → Refusal
 handles_full s = HandlesFull (live_objects s) (length s.objects)
 
--- no further object can be made, or none of a kind that has a limit of its own
+-- no further object can be made
 abbrev pub is_full : State → Bool
 is_full s = live_objects s == MAX_OBJECTS
 
+-- There is room for one more, also of a kind that has a limit of its own.
 abbrev pub room : State → Bool → Looked (Unit {0})
 room s is_full_of_kind = refused_if (is_full s || is_full_of_kind) (handles_full s)
 
 -- ---- what each create looks at: the place of the device that the new object will belong to
 
--- VdpDeviceCreateX11: a device belongs to itself
+-- VdpDeviceCreateX11 (vdpau_x11.h): a device belongs to itself
 abbrev pub device_create : State → Looked ℕ
 device_create s = do
   room s (live_devices s == MAX_DEVICES)

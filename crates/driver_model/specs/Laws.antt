@@ -1,15 +1,19 @@
 -- What follows from the definitions.
-use Rattle.std.specs.Prelude.{◌≡◌, ◌≢◌, ℕ, Bool, true, false, List, ◌++◌, map, filter_map, AllPairs, slice_get, Option, Some, None, Err, ⊤}
+use Rattle.std.specs.Prelude.{◌≡◌, ◌≢◌, ◌↔◌, ℕ, Bool, true, false, not, List, ◌++◌, map, filter_map, AllPairs, slice_get, Option, Some, None, Err, ⊤}
 use Rattle.std.specs.List.{AllByRecursion}
+use Rattle.cb_types.specs.AcceptedInfo.{takes_weights}
 use Rattle.cb_types.specs.SizeMbs.{IsWithinLimits}
+use Rattle.cb_types.specs.declared.size.SizeMbs.{SizeMbs}
 use Rattle.present_queue.specs.Queue.{Names, Queue}
 use Rattle.vd_status.specs.declared.refusal.Refusal.{Refusal}
 use Rattle.vd_status.specs.declared.refusal.Refusal.TheVariants.{Bitstream, Incomplete, OutOfMemory}
 use Rattle.driver_model.specs.Answers.{Reply}
 use Rattle.driver_model.specs.Histories.{IsLegal, IsStateOf}
-use Rattle.driver_model.specs.Objects.{Content, DecoderObject}
+use Rattle.driver_model.specs.Kept.{is_in_queue}
+use Rattle.driver_model.specs.Objects.{Content, VideoObject, OutputObject, DecoderObject, MixerObject}
 use Rattle.driver_model.specs.Parts.{name_given}
 use Rattle.driver_model.specs.Presented.{is_idle_at, queues_of}
+use Rattle.driver_model.specs.Sizes.{is_within_limits}
 use Rattle.driver_model.specs.Sound.{AreSound}
 use Rattle.driver_model.specs.States.{State}
 use Rattle.driver_model.specs.Steps.{Step}
@@ -17,10 +21,14 @@ use Rattle.driver_model.specs.Waits.{Waits}
 use Rattle.driver_model.specs.declared.calls.Call.{Call}
 use Rattle.driver_model.specs.declared.items.Item.{Item}
 use Rattle.driver_model.specs.declared.items.Item.TheVariants.{Called, Ended}
+use Rattle.driver_model.specs.declared.numbers.TheConstants.{WEIGHTED_BASELINE}
 
--- Each decoder has a size within the limits, as those that were created.
+-- The size of an object that has one is within the limits.
 abbrev pub HasSize : Content → Type 0
+HasSize (VideoObject surface) = IsWithinLimits surface.size
+HasSize (OutputObject surface) = IsWithinLimits surface.size
 HasSize (DecoderObject decoder) = IsWithinLimits decoder.size
+HasSize (MixerObject mixer) = IsWithinLimits mixer.size
 HasSize _ = ⊤
 
 abbrev pub HasSizes : State → Type 0
@@ -32,7 +40,7 @@ StepsLeaveOneState =
     (old new other : State) (caller : List ℕ) (call : Call) (reply : Reply)
     → HasSizes old → Step old caller call reply new → Step old caller call reply other → new ≡ other
 
--- A history leads to one state at most, and each decoder there has a size within the limits.
+-- A history leads to one state at most, and each object there that has a size has one within the limits.
 abbrev pub HistoriesLeadToOneState : Type 0
 HistoriesLeadToOneState = (history : List Item) (s t : State) → IsStateOf history s → IsStateOf history t → s ≡ t
 
@@ -81,11 +89,17 @@ WaitingCallsAreNotAnswered =
     (old new : State) (caller : List ℕ) (call : Call) (reply : Reply)
     → Waits old call → Step old caller call reply new → reply ≡ Err OutOfMemory
 
--- No queue has an entry of an idle surface, or shows it.
+-- A surface is idle exactly where no queue has an entry of it or shows it.
 abbrev pub IdleSurfacesAreNotNamed : Type 0
 IdleSurfacesAreNotNamed =
-    (s : State) (surface place : ℕ) (queue : Queue ℕ)
-    → is_idle_at s surface ≡ true → slice_get (queues_of s) place ≡ Some queue → Names queue surface → ⊥
+    (s : State) (surface : ℕ)
+    → (is_idle_at s surface ≡ true)
+    ↔ ((place : ℕ) (queue : Queue ℕ) → slice_get (queues_of s) place ≡ Some queue → Names queue surface → ⊥)
+
+-- In the state of a legal history the live queues alone decide that, since a destroyed one names nothing.
+abbrev pub LiveQueuesDecide : Type 0
+LiveQueuesDecide =
+    (history : List Item) (s : State) → IsStateOf history s → (surface : ℕ) → is_in_queue s surface ≡ not (is_idle_at s surface)
 
 -- In the state of a legal history each queue is sound: it names output surfaces of its own device, and none once it is destroyed.
 abbrev pub QueuesAreSound : Type 0
@@ -94,3 +108,11 @@ QueuesAreSound = (history : List Item) (s : State) → IsStateOf history s → A
 -- Each front of a legal history is legal.
 abbrev pub FrontsAreLegal : Type 0
 FrontsAreLegal = (front rest : List Item) → IsLegal (front ++ rest) → IsLegal front
+
+-- The limits of sizes, as the creates look at them, are those within which pictures are decoded.
+abbrev pub LimitsAreOne : Type 0
+LimitsAreOne = (size : SizeMbs) → (is_within_limits size ≡ true) ↔ IsWithinLimits size
+
+-- Of all profiles it is this one whose infos may have weighted_pred_flag (H.264, 7.4.2.2).
+abbrev pub OneProfileTakesWeights : Type 0
+OneProfileTakesWeights = (profile : ℕ) → (takes_weights profile ≡ true) ↔ (profile ≡ WEIGHTED_BASELINE)

@@ -27,7 +27,7 @@ mix s handle structure surface onto = do
   refused_if (not (is_same_size mixer.value.size video.value.size && is_same_size mixer.value.size output.value.size)) BadSize
   Ok (record { mixer = mixer; video = video; output = output })
 
--- A mix waits while one of its surfaces is out.
+-- No mix begins while another job writes one of its surfaces.
 abbrev pub is_mix_held : State → Mixing → Bool
 is_mix_held s on = is_out s on.video.place || is_out s on.output.place
 

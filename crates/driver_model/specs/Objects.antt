@@ -1,11 +1,11 @@
--- The driver's objects, as callers know them (vdpau.h, the opaque handle types). There is no shared storage and no memory here.
+-- What callers can tell of the driver's objects (vdpau.h, the opaque handle types). Samples and bytes are plain lists.
 use Rattle.std.specs.Prelude.{ℕ, Bool, List, ℤ, Option, Some, None}
 use Rattle.cb_types.specs.declared.size.SizeMbs.{SizeMbs}
 use Rattle.present_queue.specs.Queue.{Queue}
 use Rattle.vd_plane.specs.declared.picture.Picture.{Picture}
 use Rattle.driver_model.specs.declared.numbers.TheConstants as number
 
--- VdpDevice: the time of its clock's last tick, and whether the display is preempted
+-- VdpDevice: what its clock stands at, and whether the display is preempted
 pub record Device : Type 0 where
   pub time : ℕ
   pub is_preempted : Bool

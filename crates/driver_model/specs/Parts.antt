@@ -92,8 +92,9 @@ is_about device names entry =
     (is_creation device entry.call entry.reply || list_any (λ name. is_first name entry.call) names)
     && not (is_out_of_handles entry.reply)
 
--- The items of a list that are about the device, where the list's places begin with this one, and those before it that are about the
--- device stand at these places. A mark is, where the entry at its place is; its place is then counted in the part.
+-- The items of a list that are about the device. `here` is the place of the list's first item in the history, and `places` are those
+-- of the items before it that are about the device. A mark is about the device if the entry that it ends is; it then names that
+-- entry by its place in the part.
 unfoldable pub part_from : ℕ → List ℕ → List ℕ → ℕ → List Item → List Item
 part_from device names places here [] = []
 part_from device names places here (Called entry ∷ later) =

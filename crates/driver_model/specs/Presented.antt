@@ -23,18 +23,19 @@ is_visible_at s surface = is_shown (λ place. place == surface) (queues_of s)
 abbrev pub is_queued_at : State → ℕ → Bool
 is_queued_at s surface = is_queued (λ place. place == surface) (queues_of s)
 
--- A surface is visible where some queue shows it, else queued where some queue has an entry of it, else idle.
+-- the first of VDP_PRESENTATION_QUEUE_STATUS_VISIBLE, _QUEUED and _IDLE that fits
 abbrev pub status_at : State → ℕ → PresentStatus
 status_at s surface = if is_visible_at s surface then Visible else if is_queued_at s surface then Queued else Idle
 
 abbrev pub is_idle_at : State → ℕ → Bool
 is_idle_at s surface = not (is_visible_at s surface || is_queued_at s surface)
 
--- the time of a flip that was on this queue, else 0
+-- a flip's time as this queue tells it: of another queue's flips it knows nothing
 abbrev pub time_if_on : ℕ → LastFlip → ℕ
 time_if_on queue flip = if flip.queue == queue then flip.time else 0
 
--- the time of the surface's latest flip where that was on this queue, else 0
+-- first_presentation_time of VdpPresentationQueueQuerySurfaceStatus: when this queue flipped to the surface last, and 0 if it never
+-- did or another queue has done so since
 abbrev pub first_time : State → ℕ → ℕ → ℕ
 first_time s queue surface =
     option_map_or (time_if_on queue) (option_and_then (λ of. of.last_flip) (content_at s as_output surface)) 0

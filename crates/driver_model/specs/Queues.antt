@@ -13,18 +13,18 @@ abbrev pub queue : State → ℕ → Looked (Found PresentationQueue)
 queue s handle = first_handle s (named s as_queue handle)
 
 -- a queue and an output surface of its device
-pub record Presented : Type 0 where
+pub record QueueAndSurface : Type 0 where
   pub queue : Found PresentationQueue
   pub surface : Found OutputSurface
 
-abbrev pub presented : State → (handle surface : ℕ) → Looked Presented
+abbrev pub presented : State → (handle surface : ℕ) → Looked QueueAndSurface
 presented s handle surface = do
   on ← queue s handle
   of ← further_handle 1 on.device (named s as_output surface)
   Ok (record { queue = on; surface = of })
 
 -- VdpPresentationQueueDisplay: the queue isn't full, and the time isn't before its promise
-abbrev pub queue_display : State → (handle surface earliest : ℕ) → Looked Presented
+abbrev pub queue_display : State → (handle surface earliest : ℕ) → Looked QueueAndSurface
 queue_display s handle surface earliest = do
   on ← presented s handle surface
   answer_to_display on.queue.value.queue earliest
@@ -61,13 +61,13 @@ module _ (old : State) (reply : Reply) (new : State) where
         first_time = first_time old on.queue.place on.surface.place;
       })))
 
-  -- VdpPresentationQueueBlockUntilSurfaceIdle waits until the surface is idle.
+  -- VdpPresentationQueueBlockUntilSurfaceIdle: no answer before the surface is idle
   abbrev pub BlockUntilIdle : (handle surface : ℕ) → Type 0
   BlockUntilIdle handle surface =
       Goes old reply new (presented old handle surface) (λ on.
       (is_idle_at old on.surface.place ≡ true) × Tells old reply new (Time (first_time old on.queue.place on.surface.place)))
 
-  -- VdpPresentationQueueGetTime: the time of the device's last tick
+  -- VdpPresentationQueueGetTime: what the device's clock stands at
   abbrev pub GetTime : ℕ → Type 0
   GetTime handle = Goes old reply new (queue old handle) (λ on. Tells old reply new (Time (time_of old on.device)))
 

@@ -25,7 +25,8 @@ refused_if true refusal = Err refusal
 refused_if false refusal = Ok tt
 
 module _ {T : Type 0} where
-  -- A handle names an object, and its device isn't preempted. The refusal carries the handle's number among the arguments.
+  -- A handle names an object, and its device isn't preempted. The refusal says which of the
+  -- call's handles it is, counted from 0.
   abbrev pub in_use : State → ℕ → Option (Found T) → Looked (Found T)
   in_use s arg None = Err (InvalidHandle arg)
   in_use s arg (Some found) = if is_preempted s found.device then Err Preempted else Ok found

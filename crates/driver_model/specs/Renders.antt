@@ -74,19 +74,22 @@ info_taken decoder info =
       | Some field ↦ Err (BadInfo field)
     ]
 
--- VdpDecoderRender, of a submission that has so many units
-abbrev pub render : State → (handle surface : ℕ) → PictureInfo → ℕ → Looked Rendering
-render s handle surface info units = do
+-- VdpDecoderRender, up to the bytes
+abbrev pub render : State → (handle surface : ℕ) → PictureInfo → Looked Rendering
+render s handle surface info = do
   on ← rendering s handle surface info.references
   refused_if (is_own_reference on) TargetIsReference
   refused_if (is_of_other_size on) BadSize
   info_taken on.decoder.value info
-  refused_if (not (units == info.slice_count)) (SliceCount units)
   Ok on
+
+-- and at the bytes last: they have as many units as the info says
+abbrev pub units_counted : PictureInfo → ℕ → Looked (Unit {0})
+units_counted info units = refused_if (not (units == info.slice_count)) (SliceCount units)
 
 -- ---- what is done
 
--- A render waits while its target or a reference is out.
+-- No render begins while another job writes its target or a reference.
 abbrev pub is_render_held : State → Rendering → Bool
 is_render_held s on = is_out s on.target.place || some_reference (λ found. is_out s found.place) on
 
@@ -111,8 +114,12 @@ module _ (old : State) (reply : Reply) (new : State) where
     pub tells : reply ≡ reply_of outcome
     pub after : new ≡ with_note (decoded old on.target picture outcome) caller on.target.place outcome
 
-  -- VdpDecoderRender: the bytes are a byte stream with these payloads
-  pub record Render (caller : List ℕ) (handle surface : ℕ) (info : PictureInfo) (bytes : List ℕ) : Type 0 where
+  -- The bytes are a byte stream with these payloads, which are counted.
+  pub record Counts (caller : List ℕ) (info : PictureInfo) (bytes : List ℕ) (on : Rendering) : Type 0 where
     pub payloads : List (Option (List ℕ))
     pub units : ArePayloads bytes payloads
-    pub goes : Goes old reply new (render old handle surface info (length payloads)) (Decodes caller info payloads)
+    pub goes : Goes old reply new (units_counted info (length payloads)) (λ nothing. Decodes caller info payloads on)
+
+  -- VdpDecoderRender: of what the bytes have, only a render speaks that finds no other fault
+  abbrev pub Render : (caller : List ℕ) (handle surface : ℕ) → PictureInfo → List ℕ → Type 0
+  Render caller handle surface info bytes = Goes old reply new (render old handle surface info) (Counts caller info bytes)

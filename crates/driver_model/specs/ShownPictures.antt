@@ -1,4 +1,4 @@
--- Which pictures of a stream a script of ticks shows, and when. It speaks of no surface and of no queue.
+-- Which pictures of a stream a script of ticks shows, and when. Only the pictures' numbers and the ticks' times count.
 use Rattle.std.specs.Prelude.{ℕ, ◌+◌, ◌*◌, nat_le, ◌==◌, Bool, false, not, if◌then◌else◌, List, [], ◌∷◌, ◌++◌, take_while, Option, Some, None}
 use Rattle.std.specs.Option.{option_map_or}
 use Rattle.clock_script.specs.Script.{is_preemption_of}
@@ -25,7 +25,7 @@ module _ (script : List ScriptLine) (stream period : ℕ) where
   abbrev pub tick_of : ℕ → Option ℕ
   tick_of number = tick_from ((number + 1) * period) script
 
-  -- the same, where it stands before the line that preempts the stream
+  -- the same among the lines ahead of the stream's preemption
   abbrev pub tick_in_time : ℕ → Option ℕ
   tick_in_time number = tick_from ((number + 1) * period) (before_preemption stream script)
 

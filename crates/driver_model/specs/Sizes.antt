@@ -30,6 +30,10 @@ size_for width height = let size : SizeMbs = size_of_sides width height in if is
 abbrev pub is_same_size : SizeMbs → SizeMbs → Bool
 is_same_size a b = a.width == b.width && a.height == b.height
 
+-- how many bytes the samples of a video surface take: one for each luma sample, and half as many for both chroma arrays
+abbrev pub sample_bytes : SizeMbs → ℕ
+sample_bytes size = luma_width size * luma_height size * 3 / 2
+
 -- how many bytes the pixels of a surface take, four each
 abbrev pub pixel_bytes : SizeMbs → ℕ
 pixel_bytes size = 4 * (luma_width size * luma_height size)
@@ -42,6 +46,6 @@ is_ycbcr_format format = format == NV12 || format == YV12
 abbrev pub is_rgba_format : ℕ → Bool
 is_rgba_format format = format == B8G8R8A8 || format == R8G8B8A8
 
--- VdpDecoderProfile
+-- VdpDecoderProfile, by this project's own numbers
 abbrev pub is_profile : ℕ → Bool
 is_profile profile = profile == CONSTRAINED_BASELINE || profile == WEIGHTED_BASELINE

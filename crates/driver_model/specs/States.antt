@@ -1,4 +1,4 @@
--- The state of a driver: all objects ever made, the notes of jobs that were begun and haven't ended, and how long the history is.
+-- What a driver remembers from one call to the next.
 use Rattle.std.specs.Prelude.{ℕ, zero, suc, ◌+◌, ◌==◌, Bool, false, not, ◌&&◌, if◌then◌else◌, List, [], ◌∷◌, ◌++◌, length, map, filter, slice_get, count_by, Option, None, option_map, option_and_then}
 use Rattle.std.specs.List.{list_any}
 use Rattle.std.specs.Option.{option_or, option_map_or}
@@ -6,8 +6,8 @@ use Rattle.decoder_render.specs.declared.outcome.Outcome.{Outcome}
 use Rattle.device_lock.specs.Lists.{same}
 use Rattle.driver_model.specs.Objects.{Content, Object, as_device}
 
--- A job that was begun and hasn't ended: the place of its entry in the history, its caller, the place of its target among all
--- objects ever made, its outcome, and a number that no other note has.
+-- A running job: at which item it was begun and by whom, which object it writes, how it will end, and a number that tells it
+-- from the other running ones. The object is known by its place.
 pub record Note : Type 0 where
   pub place : ℕ
   pub caller : List ℕ
@@ -15,7 +15,8 @@ pub record Note : Type 0 where
   pub outcome : Outcome
   pub number : ℕ
 
--- All objects ever made, in the order of creation; the notes; and the number of items of the history so far.
+-- Each object since the driver's start, the destroyed ones too: its place is how many were created before it. A note for each
+-- running job. How many items have happened.
 pub record State : Type 0 where
   pub objects : List Object
   pub notes : List Note
@@ -104,7 +105,7 @@ with_object s object = record s { objects = s.objects ++ object ∷ [] }
 
 -- ---- notes
 
--- A surface is out while a note has it as its target, else at home.
+-- Some running job writes the surface: it is out.
 abbrev pub is_out : State → ℕ → Bool
 is_out s place = list_any (λ note. note.target == place) s.notes
 
@@ -118,7 +119,7 @@ free_number_from numbers (suc tries) number =
 abbrev pub free_number : List ℕ → ℕ
 free_number numbers = free_number_from numbers (length numbers) 0
 
--- A job of this caller is begun: its note has the place of the item that is added now, and the least number that no note has.
+-- This caller begins a job: a note for it, with the place of the item that comes now and the smallest number that is free.
 abbrev pub with_note : State → List ℕ → ℕ → Outcome → State
 with_note s caller target outcome =
     let note : Note = record {

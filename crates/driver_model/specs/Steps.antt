@@ -70,7 +70,8 @@ module _ (old : State) (caller : List ℕ) where
   Does (call.Render decoder target info bytes) reply new = Render old reply new caller decoder target info bytes
   Does (call.Mix mixer structure video output) reply new = Mix old reply new caller mixer structure video output
 
-  -- Want of memory is the one free answer, of the calls that take some. It changes nothing.
+  -- What a call answers follows from the state, but for this: one that allocates may fail for want of memory at any time, and then
+  -- nothing has changed.
   abbrev pub Step : Call → Reply → State → Type 0
   Step call reply new =
       ((takes_memory call ≡ true) × IsRefused old reply new OutOfMemory) ⊎ Does call reply new

@@ -1,7 +1,7 @@
 -- The calls on surfaces, decoders and mixers that make nothing and begin no job. The section on each call says first what the call
 -- looks at, and then what it does.
 use Rattle.std.specs.Prelude.{◌≡◌, ℕ, ◌==◌, true, false, not, if◌then◌else◌, List, length, ℤ, Ok}
-use Rattle.bits_io.specs.ByteOrder.{byte_count, bytes_of}
+use Rattle.bits_io.specs.ByteOrder.{bytes_of}
 use Rattle.cb_types.specs.SizeMbs.{luma_height, luma_width}
 use Rattle.cb_types.specs.declared.size.TheConstants.{MAX_PICTURE_MBS}
 use Rattle.vd_plane.specs.Picture.{SameSize}
@@ -10,7 +10,7 @@ use Rattle.vd_status.specs.declared.refusal.Refusal.TheVariants.{BadSize, BadYCb
 use Rattle.driver_model.specs.Answers.{Goes, Leaves, Reply, Tells}
 use Rattle.driver_model.specs.Objects.{VideoObject, VideoSurface, OutputObject, OutputSurface, Decoder, MixerObject, VideoMixer, as_device, as_video, as_output, as_decoder, as_mixer}
 use Rattle.driver_model.specs.Refusals.{Looked, ◌>>=◌, ◌>>◌, first_handle, refused_if}
-use Rattle.driver_model.specs.Sizes.{is_profile, is_ycbcr_format, pixel_bytes}
+use Rattle.driver_model.specs.Sizes.{is_profile, is_ycbcr_format, pixel_bytes, sample_bytes}
 use Rattle.driver_model.specs.States.{State, Found, destroyed, is_out, named, with_content}
 use Rattle.driver_model.specs.declared.numbers.TheConstants.{CHROMA_420, MAX_SIDE}
 use Rattle.driver_model.specs.declared.replies.Answer.TheVariants.{Bytes, Size, Supports}
@@ -37,7 +37,7 @@ abbrev pub video_bits : State → (surface format count : ℕ) → Looked (Found
 video_bits s surface format count = do
   on ← video s surface
   refused_if (not (is_ycbcr_format format)) BadYCbCr
-  refused_if (not (count == byte_count on.value.picture)) BadSize
+  refused_if (not (count == sample_bytes on.value.size)) BadSize
   Ok on
 
 -- VdpOutputSurfaceGetBitsNative and VdpOutputSurfacePutBitsNative
@@ -76,13 +76,13 @@ module _ (old : State) (reply : Reply) (new : State) where
   abbrev pub VideoParameters : ℕ → Type 0
   VideoParameters surface = Goes old reply new (video old surface) (λ on. Tells old reply new (Size (size_told on.value)))
 
-  -- VdpVideoSurfaceGetBitsYCbCr gives the samples in the format. It waits while the surface is out.
+  -- VdpVideoSurfaceGetBitsYCbCr: the samples in the format, once no job writes them
   abbrev pub VideoGetBits : (surface format count : ℕ) → Type 0
   VideoGetBits surface format count =
       Goes old reply new (video_bits old surface format count) (λ on.
       (is_out old on.place ≡ false) × Tells old reply new (Bytes (bytes_of format on.value.picture)))
 
-  -- VdpVideoSurfacePutBitsYCbCr: the samples are those given. It waits while the surface is out.
+  -- VdpVideoSurfacePutBitsYCbCr: the samples that these bytes say take the old ones' place, once no job writes those
   abbrev pub VideoPutBits : (surface format : ℕ) → List ℕ → Type 0
   VideoPutBits surface format bytes =
       Goes old reply new (video_bits old surface format (length bytes)) (λ on.
@@ -96,13 +96,13 @@ module _ (old : State) (reply : Reply) (new : State) where
   abbrev pub VideoDestroy : ℕ → Type 0
   VideoDestroy surface = Goes old reply new (video old surface) (λ on. Leaves old reply new (destroyed old on.place))
 
-  -- VdpOutputSurfaceGetBitsNative gives the surface's bytes. It waits while the surface is out.
+  -- VdpOutputSurfaceGetBitsNative: the pixels' bytes, once no job writes them
   abbrev pub OutputGetBits : (surface count : ℕ) → Type 0
   OutputGetBits surface count =
       Goes old reply new (output_bits old surface count) (λ on.
       (is_out old on.place ≡ false) × Tells old reply new (Bytes on.value.bytes))
 
-  -- VdpOutputSurfacePutBitsNative: the bytes are those given. It waits while the surface is out.
+  -- VdpOutputSurfacePutBitsNative: these bytes take the old ones' place, once no job writes those
   abbrev pub OutputPutBits : ℕ → List ℕ → Type 0
   OutputPutBits surface bytes =
       Goes old reply new (output_bits old surface (length bytes)) (λ on.

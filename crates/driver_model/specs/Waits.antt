@@ -7,7 +7,7 @@ use Rattle.driver_model.specs.Mixes.{is_mix_held, mix}
 use Rattle.driver_model.specs.Presented.{is_idle_at}
 use Rattle.driver_model.specs.Queues.{presented}
 use Rattle.driver_model.specs.Refusals.{Looked}
-use Rattle.driver_model.specs.Renders.{is_render_held, render}
+use Rattle.driver_model.specs.Renders.{is_render_held, render, units_counted}
 use Rattle.driver_model.specs.States.{State, is_out}
 use Rattle.driver_model.specs.Surfaces.{output_bits, video_bits}
 use Rattle.driver_model.specs.Wishes.{first_wish}
@@ -28,8 +28,9 @@ Waits s (call.BlockUntilIdle queue surface) = FoundAnd (presented s queue surfac
 Waits s (call.Advance device time) = FoundAnd (advance s device time) (λ on. is_tick_held s on.place time)
 Waits s (call.WaitUntil wishes) = FoundAnd (first_wish s wishes) is_none
 Waits s (call.Render decoder target info bytes) =
+    IsOkAnd (render s decoder target info) (λ on.
     (payloads : List (Option (List ℕ)))
     × ArePayloads bytes payloads
-    × FoundAnd (render s decoder target info (length payloads)) (is_render_held s)
+    × FoundAnd (units_counted info (length payloads)) (λ nothing. is_render_held s on))
 Waits s (call.Mix mixer structure video output) = FoundAnd (mix s mixer structure video output) (is_mix_held s)
 Waits s _ = ⊥

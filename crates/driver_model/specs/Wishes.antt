@@ -1,4 +1,4 @@
--- What callers wait for. Wishes are tried in order, and the first that is refused or holds decides.
+-- What callers wait for. A list of wishes is gone through from the front, up to one that holds or whose object can't be used.
 use Rattle.std.specs.Prelude.{ℕ, ◌+◌, nat_lt, Bool, not, if◌then◌else◌, List, [], ◌∷◌, Option, Some, None, Ok, MatchOption}
 use Rattle.driver_model.specs.Answers.{Goes, Reply, Tells}
 use Rattle.driver_model.specs.Objects.{as_output, as_queue, as_video}
@@ -24,7 +24,7 @@ wish_holds s arg (PromisePast queue time) = do
   on ← in_use s arg (named s as_queue queue)
   Ok (nat_lt time on.value.queue.promise)
 
--- the place of the first wish that holds, of a list whose places begin with this one
+-- which wish of a list is the first to hold, if one does; the list's first wish has this place
 unfoldable pub first_wish_from : State → ℕ → List Wish → Looked (Option ℕ)
 first_wish_from s arg [] = Ok None
 first_wish_from s arg (wish ∷ later) = do
@@ -35,11 +35,11 @@ abbrev pub first_wish : State → List Wish → Looked (Option ℕ)
 first_wish s wishes = first_wish_from s 0 wishes
 
 module _ (old : State) (reply : Reply) (new : State) where
-  -- the place of the first wish that holds, or None where none does
+  -- which wish holds, if one does
   abbrev pub Poll : List Wish → Type 0
   Poll wishes = Goes old reply new (first_wish old wishes) (λ place. Tells old reply new (Holds place))
 
-  -- the same, but it waits where none does
+  -- the same, but never None: there is no answer before some wish holds
   abbrev pub WaitUntil : List Wish → Type 0
   WaitUntil wishes =
       Goes old reply new (first_wish old wishes) (λ place. MatchOption place ⊥ (λ found. Tells old reply new (Holds (Some found))))

@@ -5,13 +5,13 @@ use std::collections::LinkedList;
 /// What a caller may wait for.
 #[derive(Clone, Copy, Debug, PartialEq, Eq)]
 pub enum Wish {
-    /// No queue shows the output surface or has an entry of it.
+    /// The output surface is idle (VDP_PRESENTATION_QUEUE_STATUS_IDLE).
     OutputIdle { surface: u32 },
-    /// No running job has the video surface as its target.
+    /// No job writes the video surface.
     VideoHome { surface: u32 },
-    /// No running job has the output surface as its target.
+    /// No job writes the output surface.
     OutputHome { surface: u32 },
-    /// The queue's promise is greater than the time.
+    /// Nothing that is yet to be displayed on the queue can be for this time or an earlier one.
     PromisePast { queue: u32, time: u64 },
 }
 
@@ -20,7 +20,7 @@ pub enum Wish {
 ///
 /// A job, which callers begin, run and end, is one call here: `Render` or `Mix`.
 pub enum Call {
-    /// VdpDeviceCreateX11.
+    /// VdpDeviceCreateX11 (vdpau_x11.h).
     DeviceCreate,
     /// VdpDeviceDestroy.
     DeviceDestroy {

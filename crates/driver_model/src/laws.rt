@@ -1,13 +1,13 @@
 // What follows from the definitions.
-ghost use Rattle.driver_model.specs.Laws.{FrontsAreLegal, HistoriesHaveSizes, HistoriesLeadToOneState, IdleSurfacesAreNotNamed, NamesAreGiven, NamesAreGivenOnce, QueuesAreSound, RefusalsAreOne, RefusalsLeaveTheState, StepsLeaveOneState, WaitingCallsAreNotAnswered};
+ghost use Rattle.driver_model.specs.Laws.{FrontsAreLegal, HistoriesHaveSizes, HistoriesLeadToOneState, IdleSurfacesAreNotNamed, LimitsAreOne, LiveQueuesDecide, NamesAreGiven, NamesAreGivenOnce, OneProfileTakesWeights, QueuesAreSound, RefusalsAreOne, RefusalsLeaveTheState, StepsLeaveOneState, WaitingCallsAreNotAnswered};
 
 /// The state behind a call is settled by the state before it, the caller, the call and its reply.
 pub fn steps_leave_one_state()
     ensures { StepsLeaveOneState }
 {}
 
-/// A history leads to one state at most, whose decoders have sizes within the limits, and each front of a
-/// legal history is legal.
+/// A history leads to one state at most, whose objects have sizes within the limits, and each front of a legal
+/// history is legal.
 pub fn histories_lead_to_one_state()
     ensures one { HistoriesLeadToOneState }
     ensures sizes { HistoriesHaveSizes }
@@ -32,13 +32,22 @@ pub fn waiting_calls_are_not_answered()
     ensures { WaitingCallsAreNotAnswered }
 {}
 
-/// No queue has an entry of an idle surface, or shows it.
+/// A surface is idle exactly where no queue has an entry of it or shows it, and in the state of a legal history
+/// where no live one does.
 pub fn idle_surfaces_are_not_named()
-    ensures { IdleSurfacesAreNotNamed }
+    ensures unnamed { IdleSurfacesAreNotNamed }
+    ensures live { LiveQueuesDecide }
 {}
 
 /// Where a legal history leads, each queue names output surfaces of its own device, at most 64 entries wait
 /// in it, and a destroyed one is empty.
 pub fn queues_are_sound()
     ensures { QueuesAreSound }
+{}
+
+/// The limits of sizes, and which profile may have weighted_pred_flag, are the same here as where pictures are
+/// decoded.
+pub fn numbers_agree()
+    ensures sizes { LimitsAreOne }
+    ensures weights { OneProfileTakesWeights }
 {}

@@ -3,7 +3,8 @@
 //!
 //! The driver is a state, all objects ever made, and each call is one step on it. A history lists what was
 //! called and answered, with the caller of each call. It is legal where each step leads from the state that
-//! the steps before it left. Threads, locks and shared memory are no part of it.
+//! the steps before it left. Threads and shared storage are no part of it; only what one caller has seen of a
+//! history is told over the views of device_lock (specs/Passes.antt).
 #![tactic(auto)]
 
 mod calls;
@@ -15,7 +16,7 @@ mod replies;
 pub use calls::{Call, Wish};
 pub use items::{Entry, Item, Mark};
 pub use laws::{
-    histories_lead_to_one_state, idle_surfaces_are_not_named, names_are_given_once,
+    histories_lead_to_one_state, idle_surfaces_are_not_named, names_are_given_once, numbers_agree,
     queues_are_sound, refusals_leave_the_state, steps_leave_one_state,
     waiting_calls_are_not_answered,
 };

@@ -21,11 +21,11 @@ pub struct Capabilities {
 /// How a surface stands to the presentation queues (vdpau.h, VdpPresentationQueueStatus).
 #[derive(Clone, Copy, Debug, PartialEq, Eq)]
 pub enum PresentStatus {
-    /// No queue shows it or has an entry of it.
+    /// VDP_PRESENTATION_QUEUE_STATUS_IDLE: neither on display nor in line.
     Idle,
-    /// A queue has an entry of it.
+    /// VDP_PRESENTATION_QUEUE_STATUS_QUEUED: in line on some queue.
     Queued,
-    /// A queue shows it.
+    /// VDP_PRESENTATION_QUEUE_STATUS_VISIBLE: on display on some queue.
     Visible,
 }
 
@@ -70,7 +70,7 @@ pub enum Answer {
     Status(Shown),
     Time(u64),
     Flips(LinkedList<Flipped>),
-    /// The place of the first wish that holds, None where none does.
+    /// Which wish holds, by its number in the list: the earliest, if several do.
     Holds(Option<u32>),
     Counts(KeptCounts),
 }

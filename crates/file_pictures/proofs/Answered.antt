@@ -68,3 +68,11 @@ pub next_step : (r : Result Step AllocError) (decoder between new : StreamDecode
     → IfOk r (λ step. (stream : Stream) → StandsFor decoder stream → IsStep stream step new)
 next_step (Ok step) decoder between new unsettled is given_by = λ stream stands. let o = given_by stream stands in is (record { stream = stream; picture = o.0 }) o.1
 next_step (Err e) decoder between new unsettled is given_by = is
+
+-- ---- its slices come to these samples
+
+pub decoded_step : (r : Result Step AllocError) (decoder new : StreamDecoder) (unsettled : Unsettled) (whole : samples.Picture)
+    → IfOk r (λ step. (offer : Offer) → IsOffered decoder offer unsettled → AreSamples offer (Some whole) → IsStep offer.stream step new) → ((offer : Offer) → IsOffered decoder offer unsettled → AreSamples offer (Some whole))
+    → IfOk r (λ step. (offer : Offer) → IsOffered decoder offer unsettled → IsStep offer.stream step new)
+decoded_step (Ok step) decoder new unsettled whole is come = λ offer here. is offer here (come offer here)
+decoded_step (Err e) decoder new unsettled whole is come = is

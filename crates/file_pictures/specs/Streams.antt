@@ -79,3 +79,8 @@ IsStep stream step.Hungry decoder = (stream.ended ≡ false) × StandsFor decode
 IsStep stream (step.Picture shown) decoder = (one : Decoded) × IsNextOne stream one × Shows shown one × StandsFor decoder (showing stream one)
 IsStep stream step.End decoder = (stream.ended ≡ true) × IsReadWhole stream.text stream.decoded
 IsStep stream (step.Refused offset large) decoder = IsReadTo stream.text stream.ended stream.decoded (record { offset = offset; large = large })
+
+-- No more pictures may wait behind a picture than a waiting list takes.
+abbrev pub HasSmallDepth : Step → Type 0
+HasSmallDepth (step.Picture shown) = shown.depth ≤ 16
+HasSmallDepth answer = Unit {0}

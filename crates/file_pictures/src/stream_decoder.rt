@@ -58,7 +58,7 @@ pub struct StreamDecoder {
 impl StreamDecoder {
     ghost use Rattle.file_pictures.specs.Files.{Decoded, reference_of, references_of};
     ghost use Rattle.file_pictures.specs.Offers.{AreSamples, HasNumber, IsOffered, Offer};
-    ghost use Rattle.file_pictures.specs.Streams.{AreKept, IsStep, MayFeed, StandsFor, Stream, no_stream, streamed};
+    ghost use Rattle.file_pictures.specs.Streams.{AreKept, HasSmallDepth, IsStep, MayFeed, StandsFor, Stream, no_stream, streamed};
     ghost use Rattle.recon.specs.References.{pictures_of};
 
     /// Nothing was fed.
@@ -87,7 +87,8 @@ impl StreamDecoder {
     /// The next picture, or what stands in its way.
     pub fn next(&mut self) -> Result<Step, AllocError>
         requires { (stream : Stream) × StandsFor self.old stream }
-        ensures { IfOk result (λ step. (stream : Stream) → StandsFor self.old stream → IsStep stream step self.new) }
+        ensures step { IfOk result (λ step. (stream : Stream) → StandsFor self.old stream → IsStep stream step self.new) }
+        ensures depth { IfOk result HasSmallDepth }
     {
         match self.acceptor.next()? {
             Next::Hungry => Ok(Step::Hungry),
@@ -100,7 +101,8 @@ impl StreamDecoder {
     // The picture, decoded, or its access unit's place where its slices come to none.
     fn decode(&mut self, unsettled: &Unsettled) -> Result<Step, AllocError>
         requires { (offer : Offer) × IsOffered self.old offer unsettled.now }
-        ensures { IfOk result (λ step. (offer : Offer) → IsOffered self.old offer unsettled.now → IsStep offer.stream step self.new) }
+        ensures step { IfOk result (λ step. (offer : Offer) → IsOffered self.old offer unsettled.now → IsStep offer.stream step self.new) }
+        ensures depth { IfOk result HasSmallDepth }
     {
         match self.samples_of(unsettled)? {
             Some(samples) => self.accept(unsettled, samples),
@@ -125,7 +127,8 @@ impl StreamDecoder {
     // The picture has these samples, and is kept for those that refer to it.
     fn accept(&mut self, unsettled: &Unsettled, samples: Picture) -> Result<Step, AllocError>
         requires { (offer : Offer) × IsOffered self.old offer unsettled.now }
-        ensures { IfOk result (λ step. (offer : Offer) → IsOffered self.old offer unsettled.now → AreSamples offer (Some samples) → IsStep offer.stream step self.new) }
+        ensures step { IfOk result (λ step. (offer : Offer) → IsOffered self.old offer unsettled.now → AreSamples offer (Some samples) → IsStep offer.stream step self.new) }
+        ensures depth { IfOk result HasSmallDepth }
     {
         self.acceptor.settle(true);
         let samples = Arc::new(self.alloc, samples)?;
@@ -142,7 +145,8 @@ impl StreamDecoder {
     // The picture's slices come to no whole picture.
     fn refuse(&mut self, unsettled: &Unsettled) -> Step
         requires { (offer : Offer) × IsOffered self.old offer unsettled.now }
-        ensures { (offer : Offer) → IsOffered self.old offer unsettled.now → AreSamples offer None → IsStep offer.stream result self.new }
+        ensures step { (offer : Offer) → IsOffered self.old offer unsettled.now → AreSamples offer None → IsStep offer.stream result self.new }
+        ensures depth { HasSmallDepth result }
     {
         self.acceptor.settle(false);
         Step::Refused {

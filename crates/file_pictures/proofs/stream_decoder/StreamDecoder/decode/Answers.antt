@@ -1,22 +1,15 @@
-use Rattle.std.proofs.Common.{Option, Some, subst}
-use Rattle.std.specs.Prelude.{Err, IfOk, Ok, Result}
+use Rattle.std.proofs.Common.{Option, subst}
+use Rattle.file_pictures.proofs.Answered.{decoded_step}
+use Rattle.file_pictures.specs.Offers.{AreSamples}
 use Rattle.vd_plane.specs.declared.picture.Picture as samples
-use Rattle.file_pictures.specs.Offers.{AreSamples, IsOffered, Offer}
-use Rattle.file_pictures.specs.Streams.{IsStep}
-use Rattle.file_pictures.specs.declared.stream_decoder.Step.{Step}
 use Rattle.file_pictures.proofs.stream_decoder.StreamDecoder.decode.Goals as goal
 
-if_ok : {T E : Type 0} (r : Result T E) (P Q : T → Type 0) → ((value : T) → P value → Q value) → IfOk r P → IfOk r Q
-if_ok (Ok value) P Q f holds = f value holds
-if_ok (Err fault) P Q f holds = tt
+pub returns-in-Some-clause-step : goal.returns-in-Some-clause-step
+returns-in-Some-clause-step c =
+    decoded_step c.accept.result c.args.self.now c.accept.new.self c.args.unsettled.now c.in-Some.samples c.accept.ensures.step
+    (λ offer is. let A : Option samples.Picture → Type 0 = λ come. AreSamples offer come in subst A c.in-Some.is (c.in_ok-samples.ensures offer is))
 
-pub returns-in-Some : goal.returns-in-Some
-returns-in-Some c =
-    if_ok c.accept.result
-    (λ (step : Step). (offer : Offer) → IsOffered c.args.self.now offer c.args.unsettled.now → AreSamples offer (Some c.in-Some.samples) → IsStep offer.stream step c.accept.new.self)
-    (λ (step : Step). (offer : Offer) → IsOffered c.args.self.now offer c.args.unsettled.now → IsStep offer.stream step c.accept.new.self)
-    (λ step holds offer o. holds offer o (subst (λ (s : Option samples.Picture). AreSamples offer s) c.in-Some.is (c.in_ok-samples.ensures offer o)))
-    c.accept.ensures
-
-pub returns-in-None : goal.returns-in-None
-returns-in-None c = λ offer o. c.refuse.ensures offer o (subst (λ (s : Option samples.Picture). AreSamples offer s) c.in-None.is (c.in_ok-samples.ensures offer o))
+pub returns-in-None-clause-step : goal.returns-in-None-clause-step
+returns-in-None-clause-step c = λ offer is.
+    let A : Option samples.Picture → Type 0 = λ come. AreSamples offer come in
+    c.refuse.ensures.step offer is (subst A c.in-None.is (c.in_ok-samples.ensures offer is))

@@ -1,4 +1,7 @@
-mod Forms
 mod Fronts
-mod Inputs
-mod TwoWords
+mod HoldLemmas
+mod NextLemmas
+mod ReadingLemmas
+mod RunLemmas
+mod Settled
+mod Texts

@@ -1,4 +1,6 @@
 pub mod CommandLine
-pub mod FirstForm
 pub mod Exit
+pub mod Output
 pub mod Run
+pub mod Reports
+pub mod Reading

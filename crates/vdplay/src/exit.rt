@@ -15,12 +15,14 @@ pub enum Exit {
     Usage,
     /// A read failed.
     ReadFault,
+    /// The access unit at this byte of the stream of this number isn't accepted.
+    BadStream { stream: u32, offset: u64 },
     /// A write failed.
     WriteFault,
     /// There was no memory.
     OutOfMemory,
-    /// What stands in the file from this byte on is of no form that is built yet.
-    NotBuilt { offset: u64 },
+    /// The stream of this number is larger than this decoder takes.
+    TooLarge { stream: u32 },
 }
 
 impl Exit {
@@ -32,9 +34,10 @@ impl Exit {
             Exit::Done => 0,
             Exit::Usage => 2,
             Exit::ReadFault => 4,
+            Exit::BadStream { .. } => 5,
             Exit::WriteFault => 6,
             Exit::OutOfMemory => 7,
-            Exit::NotBuilt { .. } => 9,
+            Exit::TooLarge { .. } => 8,
         }
     }
 }
@@ -48,9 +51,13 @@ impl fmt::Display for Exit {
             Exit::Done => Ok(()),
             Exit::Usage => write!(f, "vdplay: bad command line"),
             Exit::ReadFault => write!(f, "vdplay: a read failed"),
+            Exit::BadStream { stream, offset } => write!(
+                f,
+                "vdplay: stream {stream}: access unit at byte {offset} is not accepted"
+            ),
             Exit::WriteFault => write!(f, "vdplay: a write failed"),
             Exit::OutOfMemory => write!(f, "vdplay: no memory"),
-            Exit::NotBuilt { offset } => write!(f, "vdplay: byte {offset} is not built yet"),
+            Exit::TooLarge { stream } => write!(f, "vdplay: stream {stream} is too large"),
         }
     }
 }

@@ -3,11 +3,12 @@
 
 mod command_line;
 mod exit;
-mod first_form;
-mod reading;
+mod file_reader;
+mod file_run;
+mod line_writer;
+mod plane_writer;
+mod report;
 mod run;
-#[cfg(test)]
-mod tests;
 mod writing;
 
 pub use exit::Exit;

@@ -83,10 +83,11 @@ module _ {S : Type 0} where
   abbrev pub holds : (S → Bool) → Queue S → Bool
   holds test queue = list_any (λ entry. test entry.surface) queue.entries
 
-  -- A surface is visible where some queue shows it, else queued where some queue has an entry of it, else idle.
+  -- whether any of these queues shows a surface that passes the test
   abbrev pub is_shown : (S → Bool) → List (Queue S) → Bool
   is_shown test queues = list_any (shows test) queues
 
+  -- whether one waits in any of them
   abbrev pub is_queued : (S → Bool) → List (Queue S) → Bool
   is_queued test queues = list_any (holds test) queues
 

@@ -10,9 +10,10 @@ use std::fmt;
 /// Why a call was refused. A refused call changed nothing.
 #[derive(Clone, Copy, Debug, PartialEq, Eq)]
 pub enum Refusal {
-    /// The handle at the place `arg` of the arguments, from 0, names no live object of the kind asked.
+    /// The handle with the number `arg` among the call's handles, counted from 0, names no live object of the
+    /// kind that the call asks for.
     InvalidHandle { arg: u32 },
-    /// The handle at this place belongs to another device than the first one.
+    /// The handle with this number belongs to another device than the first one.
     DeviceMismatch { arg: u32 },
     /// The device is preempted.
     Preempted,

@@ -8,9 +8,8 @@ use Rattle.access_units.specs.AccessUnits.{AccessUnit}
 use Rattle.access_units.specs.Acceptors.{Past}
 use Rattle.access_units.specs.Giving.{IsOfferOf, bytes_at}
 use Rattle.access_units.specs.Hands.{Holds}
-use Rattle.access_units.specs.Pictures.{BeginsBehind, IsPicture, Picture, submission_of}
+use Rattle.access_units.specs.Pictures.{AreOwn, BeginsBehind, IsPicture, Picture, submission_of}
 use Rattle.access_units.specs.Standing.{AreWithin, StandsFor}
-use Rattle.access_units.specs.Stands.{AreOwn}
 use Rattle.access_units.specs.declared.acceptor.Acceptor.{Acceptor}
 use Rattle.access_units.specs.declared.content.Named.{Named}
 use Rattle.access_units.specs.declared.hand.InHand.{InHand}

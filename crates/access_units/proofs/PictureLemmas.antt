@@ -24,9 +24,9 @@ use Rattle.param_sets.specs.declared.pps.Pps.{Pps}
 use Rattle.param_sets.specs.declared.sps.Sps.{Sps}
 use Rattle.slice_header.specs.Conditions.{is_idr_unit}
 use Rattle.slice_header.specs.Headers.{IsMarkingOf}
-use Rattle.access_units.specs.Pictures.{BeginsBehind, IsSameSet, Picture, marked_of, with_count}
+use Rattle.access_units.specs.Pictures.{AreOwn, BeginsBehind, IsSameSet, Picture, has_number, marked_of, with_count}
 use Rattle.access_units.specs.Readable.{IsReadable}
-use Rattle.access_units.specs.Stands.{AreOwn, HasItsSet, HasOwnNumber, HaveOwnNumbers, StandsBehind, has_number, last_set}
+use Rattle.access_units.specs.Stands.{HasItsSet, HasOwnNumber, HaveOwnNumbers, StandsBehind, last_set}
 use Rattle.access_units.specs.declared.content.Named.{Named}
 use Rattle.access_units.specs.declared.pictures.Pictures.{Pictures}
 

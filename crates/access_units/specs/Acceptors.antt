@@ -7,8 +7,7 @@ use Rattle.nal_units.specs.Units.{Units}
 use Rattle.access_units.specs.AccessUnits.{AccessUnit, access_units, grouped}
 use Rattle.access_units.specs.Contents.{AreTold, Told, places_of}
 use Rattle.access_units.specs.Depth.{depth_of}
-use Rattle.access_units.specs.Pictures.{ArePictures, IsPicture, IsRefused, Picture, size_in, submission_of}
-use Rattle.access_units.specs.Stands.{AreOwn}
+use Rattle.access_units.specs.Pictures.{AreOwn, ArePictures, IsPicture, IsRefused, Picture, size_in, submission_of}
 use Rattle.access_units.specs.declared.acceptor.Next.{Next}
 use Rattle.access_units.specs.declared.acceptor.Next.TheVariants as next
 use Rattle.access_units.specs.declared.acceptor.Unsettled.{Unsettled}
@@ -51,7 +50,8 @@ IsAtAnEnd text ended places broken =
     ((ended ≡ true) × Units text places broken)
     ⊎ ((broken ≢ None) × ((more : List ℕ) → Units (text ++ more) places broken))
 
--- These units end in a front of the text, which can go on.
+-- These are the units that have ended in a front of the text, with three bytes of it or more behind each, and with something behind
+-- it that front can be a whole byte stream.
 abbrev pub AreFirst : List ℕ → List (ℕ × ℕ) → Type 0
 AreFirst text places = (taken : ℕ) × (taken ≤ length text) × Settles (take taken text) places None
 

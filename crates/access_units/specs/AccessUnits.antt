@@ -13,7 +13,8 @@ use Rattle.access_units.specs.declared.content.Named.{Named}
 pub record AccessUnit : Type 0 where
   -- the place of the first byte of its first unit
   pub offset : ℕ
-  -- None where no unit of it is refused, or else whether the first of these is a sequence set of too large pictures
+  -- None where no unit of it is refused and the text isn't broken behind its last one, or else whether what refuses it first is a
+  -- sequence set of too large pictures
   pub refused : Option Bool
   -- the bytes of its slices, in order
   pub slices : List (List ℕ)

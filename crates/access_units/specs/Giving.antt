@@ -3,9 +3,8 @@ use Rattle.std.specs.Prelude.{◌≡◌, ◌≢◌, ◌≤◌, ◌⊎◌, ℕ, t
 use Rattle.cb_types.specs.AcceptedInfo.{IsAcceptedBySome}
 use Rattle.access_units.specs.AccessUnits.{AccessUnit}
 use Rattle.access_units.specs.Acceptors.{Past}
-use Rattle.access_units.specs.Pictures.{BeginsBehind, submission_of}
+use Rattle.access_units.specs.Pictures.{AreOwn, BeginsBehind, submission_of}
 use Rattle.access_units.specs.Readable.{IsReadable}
-use Rattle.access_units.specs.Stands.{AreOwn}
 use Rattle.access_units.specs.declared.acceptor.Acceptor.{Acceptor}
 use Rattle.access_units.specs.declared.giving.Offer.{Offer}
 use Rattle.access_units.specs.declared.hand.InHand.{InHand}

@@ -1,7 +1,10 @@
 -- Which access units are pictures that this decoder takes, what their slices come to apart. H.264, 7.4.3, 8.2.1, 8.2.5 and C.4.
-use Rattle.std.specs.Prelude.{◌≡◌, ℕ, ◌+◌, ◌<◌, ◌≤◌, false, if◌then◌else◌, IsFalse, List, [], ◌∷◌, ◌++◌, length, map, flat_map, reverse, Option, Some, None, Ok}
+use Rattle.std.specs.Prelude.{◌≡◌, ℕ, ◌+◌, ◌<◌, ◌≤◌, ◌==◌, Bool, true, false, if◌then◌else◌, IsFalse, List, [], ◌∷◌, ◌++◌, length, map, flat_map, reverse, All, Option, Some, None, Ok}
+use Rattle.std.specs.List.{list_any}
 use Rattle.bit_io.specs.Payload.{payload}
+use Rattle.cb_types.specs.References.{is_absent, is_unused}
 use Rattle.cb_types.specs.Slices.{is_idr}
+use Rattle.cb_types.specs.declared.picture_info.Reference.{Reference}
 use Rattle.cb_types.specs.declared.size.SizeMbs.{SizeMbs}
 use Rattle.marking.specs.Begun.{begun_of}
 use Rattle.marking.specs.History as marks
@@ -103,3 +106,13 @@ ArePictures units pictures = ⊥
 pub record IsRefused (before : List Picture) (au : AccessUnit) : Type 0 where
   pub no_picture : (picture : Picture) → ¬ IsPicture before au picture
   pub not_tail : au.refused ≡ None → au.slices ≡ [] → ⊥
+
+-- ---- which pictures references are
+
+-- one of these pictures has this own number
+abbrev pub has_number : ℕ → List Picture → Bool
+has_number number before = list_any (λ (picture : Picture). picture.begun.frame == number) before
+
+-- Each entry that is used, and isn't an absent frame, names one of these pictures by its own number.
+abbrev pub AreOwn : List Picture → List Reference → Type 0
+AreOwn before entries = All (λ (entry : Reference). is_unused entry ≡ false → is_absent entry ≡ false → has_number entry.surface before ≡ true) entries

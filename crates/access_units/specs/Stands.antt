@@ -1,9 +1,6 @@
 -- Which pictures stand behind.
-use Rattle.std.specs.Prelude.{◌≡◌, ℕ, ◌==◌, ◌≤◌, Bool, true, false, IsFalse, List, [], ◌∷◌, length, map, reverse, All, Option, Some, None}
-use Rattle.std.specs.List.{list_any}
-use Rattle.cb_types.specs.References.{is_absent, is_unused}
+use Rattle.std.specs.Prelude.{◌≡◌, ◌≤◌, false, IsFalse, List, [], ◌∷◌, length, map, reverse, Option, Some, None}
 use Rattle.cb_types.specs.Slices.{is_idr}
-use Rattle.cb_types.specs.declared.picture_info.Reference.{Reference}
 use Rattle.marking.specs.History as marks
 use Rattle.output_order.specs.OutputOrder as order
 use Rattle.output_order.specs.Waiting as waiting
@@ -61,13 +58,3 @@ pub record StandsBehind (pictures : Pictures) (before : List Picture) : Type 0 w
   pub last : pictures.last ≡ last_set before
   pub count : pictures.count ≡ length before
   pub few : length before ≤ 7000000
-
--- ---- which pictures references are
-
--- one of these pictures has this own number
-abbrev pub has_number : ℕ → List Picture → Bool
-has_number number before = list_any (λ (picture : Picture). picture.begun.frame == number) before
-
--- Each entry that is used, and isn't an absent frame, names one of these pictures by its own number.
-abbrev pub AreOwn : List Picture → List Reference → Type 0
-AreOwn before entries = All (λ (entry : Reference). is_unused entry ≡ false → is_absent entry ≡ false → has_number entry.surface before ≡ true) entries

@@ -1,8 +1,8 @@
 // The pictures so far, as far as the next one depends on them.
 ghost use Rattle.std.specs.Prelude.{◌≡◌, ◌≤◌, ◌<◌, ◌↔◌, ℕ, List, [], ◌∷◌, None, IfSome, IsTrue, false, map, reverse};
-ghost use Rattle.access_units.specs.Pictures.{BeginsBehind, Picture, marked_of, with_count};
+ghost use Rattle.access_units.specs.Pictures.{AreOwn, BeginsBehind, Picture, marked_of, with_count};
 ghost use Rattle.access_units.specs.Readable.{IsReadable};
-ghost use Rattle.access_units.specs.Stands.{AreOwn, HasItsSet, IsLater, StandsBehind};
+ghost use Rattle.access_units.specs.Stands.{HasItsSet, IsLater, StandsBehind};
 ghost use Rattle.cb_types.specs.AcceptedInfo.{IsAcceptedBySome};
 ghost use Rattle.marking.specs.History.{AreNamed};
 ghost use Rattle.output_order.specs.OutputOrder.{History, has_settled};

@@ -22,6 +22,7 @@ use Rattle.decoder_render.specs.Coverage.{AreAccepted, Covered, Covers, Given, I
 use Rattle.decoder_render.specs.Parsed.{IsParsed, IsUnparsed, covered_by, first_header, slice_at, start_of}
 use Rattle.decoder_render.specs.Submission.{payload_at}
 use Rattle.decoder_render.specs.declared.parsing.ParsedSlice.{ParsedSlice}
+use Rattle.slice_header.proofs.InfoRanges.{info_ranges}
 use Rattle.decoder_render.proofs.SameSlice.{same_slice}
 
 -- the list up to the end of a part that was written
@@ -104,7 +105,7 @@ pub is_refused : (info : PictureInfo) (size : SizeMbs) (pictures : List (Option 
 is_refused info size pictures first start unit payload slice mbs covered marks tiles accepted limits same parsed whole stops after covers =
     let g : Given = given info size pictures in
     let here : Covers g covered (Some payload) after = subst (λ (u : Option (List ℕ)). Covers g covered u after) same covers in
-    let same_one = same_slice info size payload here.header slice.header here.mbs mbs accepted limits here.slice.spelled parsed.parse.spelled in
+    let same_one = same_slice info size payload here.header slice.header here.mbs mbs (info_ranges info accepted) limits here.slice.spelled parsed.parse.spelled in
     let lists : Some here.list ≡ Some parsed.list = sym here.slice.listed ∙ (ap (λ (h : Header). reference_list info h) same_one.of_header ∙ parsed.parse.listed) in
     let list : here.list ≡ parsed.list = some_same _ _ lists in
     let entries : in_places here.list ≡ slice.list.entries = ap in_places list ∙ sym parsed.entries in

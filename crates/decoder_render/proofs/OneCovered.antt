@@ -2,7 +2,6 @@
 use Rattle.std.proofs.Common.{◌≡◌, ℕ, zero, suc, ◌<◌, ◌≤◌, inl, inr, List, length, Option, Some, None, sym, ap, ◌∙◌, subst, arith}
 use Rattle.std.proofs.lemmas.Bool.{cases_lt}
 use Rattle.std.proofs.lemmas.List.{ext_get_or}
-use Rattle.cb_types.specs.AcceptedInfo.{IsAcceptedBySome}
 use Rattle.cb_types.specs.SizeMbs.{IsWithinLimits}
 use Rattle.cb_types.specs.declared.header.Header.{Header}
 use Rattle.cb_types.specs.declared.macroblock.Macroblock.{Macroblock}
@@ -10,6 +9,7 @@ use Rattle.cb_types.specs.declared.mark.MbMark.{MbMark}
 use Rattle.motion.specs.Border.{mark_at}
 use Rattle.recon.proofs.OneSolution.{one_solution}
 use Rattle.ref_lists.specs.ReferenceList.{reference_list}
+use Rattle.slice_header.specs.Conditions.{HasRanges}
 use Rattle.vd_plane.specs.Tiles.{tile_at}
 use Rattle.vd_plane.specs.declared.tile.Tile.{Tile}
 use Rattle.decoder_render.specs.Coverage.{AreAccepted, Covered, Covers, CoversNext, Given, IsNextSlice, IsRefused, covered_with, slice_in}
@@ -34,9 +34,9 @@ with_same : (covered : Covered) (h k : Header) (m n : List MbMark) (s t : List T
 with_same covered h k m n s t e f d =
     ap (λ (x : Header). covered_with covered x m s) e ∙ (ap (λ (x : List MbMark). covered_with covered k x s) f ∙ ap (λ (x : List Tile). covered_with covered k n x) d)
 
-next_one : (g : Given) (covered : Covered) (payload : List ℕ) (a b : Covered) → IsAcceptedBySome g.info → IsWithinLimits g.size → CoversNext g covered payload a → CoversNext g covered payload b → a ≡ b
-next_one g covered payload a b accepted limits is also =
-    let same = same_slice g.info g.size payload is.header also.header is.mbs also.mbs accepted limits is.slice.spelled also.slice.spelled in
+next_one : (g : Given) (covered : Covered) (payload : List ℕ) (a b : Covered) → HasRanges g.info → IsWithinLimits g.size → CoversNext g covered payload a → CoversNext g covered payload b → a ≡ b
+next_one g covered payload a b ranges limits is also =
+    let same = same_slice g.info g.size payload is.header also.header is.mbs also.mbs ranges limits is.slice.spelled also.slice.spelled in
     let lists : Some is.list ≡ Some also.list = sym is.slice.listed ∙ (ap (λ (h : Header). reference_list g.info h) same.of_header ∙ also.slice.listed) in
     let list : is.list ≡ also.list = cc lists in
     let x = subst (λ (h : Header). IsNextSlice g covered payload h is.list is.mbs is.marks is.tiles) same.of_header is.slice in
@@ -45,28 +45,28 @@ next_one g covered payload a b accepted limits is also =
     let one = slice_one g covered payload also.header also.list also.mbs is.marks also.marks is.tiles also.tiles limits.some_column z also.slice in
     is.behind ∙ (with_same covered is.header also.header is.marks also.marks is.tiles also.tiles same.of_header one.0 one.1 ∙ sym also.behind)
 
-covers_one : (g : Given) (covered : Covered) (unit : Option (List ℕ)) (a b : Covered) → IsAcceptedBySome g.info → IsWithinLimits g.size → Covers g covered unit a → Covers g covered unit b → a ≡ b
-covers_one g covered None a b accepted limits is also = absurd is
-covers_one g covered (Some payload) a b accepted limits is also = next_one g covered payload a b accepted limits is also
+covers_one : (g : Given) (covered : Covered) (unit : Option (List ℕ)) (a b : Covered) → HasRanges g.info → IsWithinLimits g.size → Covers g covered unit a → Covers g covered unit b → a ≡ b
+covers_one g covered None a b ranges limits is also = absurd is
+covers_one g covered (Some payload) a b ranges limits is also = next_one g covered payload a b ranges limits is also
 
-pub accepted_one : (g : Given) (units : List (Option (List ℕ))) (count : ℕ) (a b : Covered) → IsAcceptedBySome g.info → IsWithinLimits g.size → AreAccepted g units count a → AreAccepted g units count b → a ≡ b
+pub accepted_one : (g : Given) (units : List (Option (List ℕ))) (count : ℕ) (a b : Covered) → HasRanges g.info → IsWithinLimits g.size → AreAccepted g units count a → AreAccepted g units count b → a ≡ b
 unfolding AreAccepted
-accepted_one g units zero a b accepted limits is also = is ∙ sym also
-accepted_one g units (suc count) a b accepted limits is also =
-    let same = accepted_one g units count is.0 also.0 accepted limits is.1 also.1 in
-    covers_one g also.0 (payload_at units count) a b accepted limits (subst (λ (before : Covered). Covers g before (payload_at units count) a) same is.2) also.2
+accepted_one g units zero a b ranges limits is also = is ∙ sym also
+accepted_one g units (suc count) a b ranges limits is also =
+    let same = accepted_one g units count is.0 also.0 ranges limits is.1 also.1 in
+    covers_one g also.0 (payload_at units count) a b ranges limits (subst (λ (before : Covered). Covers g before (payload_at units count) a) same is.2) also.2
 
 -- a unit that is refused behind those before it isn't among those that are accepted
-pub refused_within : (g : Given) (units : List (Option (List ℕ))) (number count : ℕ) (before covered : Covered) → IsAcceptedBySome g.info → IsWithinLimits g.size
+pub refused_within : (g : Given) (units : List (Option (List ℕ))) (number count : ℕ) (before covered : Covered) → HasRanges g.info → IsWithinLimits g.size
     → AreAccepted g units number before → IsRefused g before (payload_at units number) → number < count → AreAccepted g units count covered → ⊥
 unfolding AreAccepted
-refused_within g units number zero before covered accepted limits are refused lt all = absurd (omega arith)
-refused_within g units number (suc count) before covered accepted limits are refused lt all = elim (cases_lt number count) [
-  | inl less ↦ refused_within g units number count before all.0 accepted limits are refused less all.1
+refused_within g units number zero before covered ranges limits are refused lt all = absurd (omega arith)
+refused_within g units number (suc count) before covered ranges limits are refused lt all = elim (cases_lt number count) [
+  | inl less ↦ refused_within g units number count before all.0 ranges limits are refused less all.1
   | inr le ↦
       let here : count ≡ number = omega arith in
       let front = subst (λ (n : ℕ). AreAccepted g units n all.0) here all.1 in
-      let same = accepted_one g units number all.0 before accepted limits front are in
+      let same = accepted_one g units number all.0 before ranges limits front are in
       let unit = subst (λ (n : ℕ). Covers g all.0 (payload_at units n) covered) here all.2 in
       refused covered (subst (λ (c : Covered). Covers g c (payload_at units number) covered) same unit)
 ]

@@ -3,6 +3,8 @@ use Rattle.std.proofs.Common.{◌≡◌, ℕ, ◌<◌, inl, inr, List, length, O
 use Rattle.std.proofs.lemmas.Bool.{cases_lt}
 use Rattle.cb_types.specs.AcceptedInfo.{IsAcceptedBySome}
 use Rattle.cb_types.specs.SizeMbs.{IsWithinLimits}
+use Rattle.slice_header.specs.Conditions.{HasRanges}
+use Rattle.slice_header.proofs.InfoRanges.{info_ranges}
 use Rattle.vd_plane.specs.Picture.{SameSamples}
 use Rattle.vd_plane.specs.declared.picture.Picture.{Picture}
 use Rattle.decoder_render.specs.Coverage.{AreAccepted, Covered, Given}
@@ -12,13 +14,13 @@ use Rattle.decoder_render.specs.declared.outcome.Outcome.TheVariants as outcome
 use Rattle.decoder_render.proofs.OneCovered.{accepted_one, refused_within}
 use Rattle.decoder_render.proofs.OnePicture.{picture_one}
 
-module _ (g : Given) (units : List (Option (List ℕ))) (accepted : IsAcceptedBySome g.info) (limits : IsWithinLimits g.size) where
+module _ (g : Given) (units : List (Option (List ℕ))) (ranges : HasRanges g.info) (limits : IsWithinLimits g.size) where
   -- where all units are accepted, none is at fault
   no_fault : (number : ℕ) (covered : Covered) → IsFault g units number → AreAccepted g units (length units) covered → ⊥
-  no_fault number covered fault all = refused_within g units number (length units) fault.covered covered accepted limits fault.before fault.refused fault.within all
+  no_fault number covered fault all = refused_within g units number (length units) fault.covered covered ranges limits fault.before fault.refused fault.within all
 
   fault_not_before : (a b : ℕ) → IsFault g units a → IsFault g units b → a < b → ⊥
-  fault_not_before a b is also less = refused_within g units a b is.covered also.covered accepted limits is.before is.refused less also.before
+  fault_not_before a b is also less = refused_within g units a b is.covered also.covered ranges limits is.before is.refused less also.before
 
   fault_one : (a b : ℕ) → IsFault g units a → IsFault g units b → a ≡ b
   fault_one a b is also = elim (cases_lt a b) [
@@ -31,7 +33,7 @@ module _ (g : Given) (units : List (Option (List ℕ))) (accepted : IsAcceptedBy
 
   -- all units cover so many macroblocks
   covered_one : (a b : Covered) → AreAccepted g units (length units) a → AreAccepted g units (length units) b → length a.tiles ≡ length b.tiles
-  covered_one a b is also = ap (λ (c : Covered). length c.tiles) (accepted_one g units (length units) a b accepted limits is also)
+  covered_one a b is also = ap (λ (c : Covered). length c.tiles) (accepted_one g units (length units) a b ranges limits is also)
 
   not_whole : (missing : ℕ) (picture : Picture) → Lacks g units missing → IsWhole g units picture → ⊥
   not_whole missing picture lacks whole =
@@ -48,18 +50,25 @@ module _ (g : Given) (units : List (Option (List ℕ))) (accepted : IsAcceptedBy
       let count' = also.count in
       omega (arith, same, count, count')
 
-  pub outcome_one : (a b : Outcome) (p q : Picture) → IsOutcome g units a p → IsOutcome g units b q → a ≡ b
-  outcome_one outcome.Ok outcome.Ok p q is also = refl
-  outcome_one outcome.Ok (outcome.Bitstream slice) p q is also = absurd (no_fault slice is.covered also is.accepted)
-  outcome_one outcome.Ok (outcome.Incomplete missing) p q is also = absurd (not_whole missing p also is)
-  outcome_one (outcome.Bitstream slice) outcome.Ok p q is also = absurd (no_fault slice also.covered is also.accepted)
-  outcome_one (outcome.Bitstream slice) (outcome.Bitstream other) p q is also = ap outcome.Bitstream (fault_one slice other is also)
-  outcome_one (outcome.Bitstream slice) (outcome.Incomplete missing) p q is also = absurd (no_fault slice also.covered is also.accepted)
-  outcome_one (outcome.Incomplete missing) outcome.Ok p q is also = absurd (not_whole missing q is also)
-  outcome_one (outcome.Incomplete missing) (outcome.Bitstream slice) p q is also = absurd (no_fault slice is.covered also is.accepted)
-  outcome_one (outcome.Incomplete missing) (outcome.Incomplete other) p q is also = ap outcome.Incomplete (missing_one missing other is also)
+  outcome_by : (a b : Outcome) (p q : Picture) → IsOutcome g units a p → IsOutcome g units b q → a ≡ b
+  outcome_by outcome.Ok outcome.Ok p q is also = refl
+  outcome_by outcome.Ok (outcome.Bitstream slice) p q is also = absurd (no_fault slice is.covered also is.accepted)
+  outcome_by outcome.Ok (outcome.Incomplete missing) p q is also = absurd (not_whole missing p also is)
+  outcome_by (outcome.Bitstream slice) outcome.Ok p q is also = absurd (no_fault slice also.covered is also.accepted)
+  outcome_by (outcome.Bitstream slice) (outcome.Bitstream other) p q is also = ap outcome.Bitstream (fault_one slice other is also)
+  outcome_by (outcome.Bitstream slice) (outcome.Incomplete missing) p q is also = absurd (no_fault slice also.covered is also.accepted)
+  outcome_by (outcome.Incomplete missing) outcome.Ok p q is also = absurd (not_whole missing q is also)
+  outcome_by (outcome.Incomplete missing) (outcome.Bitstream slice) p q is also = absurd (no_fault slice is.covered also is.accepted)
+  outcome_by (outcome.Incomplete missing) (outcome.Incomplete other) p q is also = ap outcome.Incomplete (missing_one missing other is also)
 
-  pub whole_one : (p q : Picture) → IsWhole g units p → IsWhole g units q → SameSamples p q
-  whole_one p q is also =
-      let same = accepted_one g units (length units) is.covered also.covered accepted limits is.accepted also.accepted in
+  -- its info in its ranges suffices
+  pub whole_by : (p q : Picture) → IsWhole g units p → IsWhole g units q → SameSamples p q
+  whole_by p q is also =
+      let same = accepted_one g units (length units) is.covered also.covered ranges limits is.accepted also.accepted in
       picture_one g also.covered p q (subst (λ (c : Covered). IsDecoded g c p) same is.decoded) also.decoded
+
+pub outcome_one : (g : Given) (units : List (Option (List ℕ))) → IsAcceptedBySome g.info → IsWithinLimits g.size → (a b : Outcome) (p q : Picture) → IsOutcome g units a p → IsOutcome g units b q → a ≡ b
+outcome_one g units accepted limits = outcome_by g units (info_ranges g.info accepted) limits
+
+pub whole_one : (g : Given) (units : List (Option (List ℕ))) → IsAcceptedBySome g.info → IsWithinLimits g.size → (p q : Picture) → IsWhole g units p → IsWhole g units q → SameSamples p q
+whole_one g units accepted limits = whole_by g units (info_ranges g.info accepted) limits

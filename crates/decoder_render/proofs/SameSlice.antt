@@ -1,6 +1,5 @@
 -- A payload spells one slice at most.
 use Rattle.std.proofs.Common.{◌≡◌, ℕ, ◌+◌, ◌*◌, Bool, List, sym, ap, ◌∙◌, subst, arith}
-use Rattle.cb_types.specs.AcceptedInfo.{IsAcceptedBySome}
 use Rattle.cb_types.specs.SizeMbs.{IsWithinLimits}
 use Rattle.cb_types.specs.declared.header.Header.{Header}
 use Rattle.cb_types.specs.declared.header.UnitHead.{UnitHead}
@@ -11,9 +10,10 @@ use Rattle.element_tables.specs.Syntax.{Takes}
 use Rattle.element_tables.proofs.Unique.{takes_same}
 use Rattle.mb_syntax.specs.SliceData.{AreSliceData}
 use Rattle.mb_syntax.proofs.ReadLemmas.{one_slice_data}
+use Rattle.slice_header.specs.Conditions.{HasRanges}
 use Rattle.slice_header.specs.Spelling.{slice_header}
+use Rattle.slice_header.proofs.Found.{found_header}
 use Rattle.decoder_render.specs.Slices.{IsFirstByte, SpellsSlice, bits_behind}
-use Rattle.decoder_render.proofs.HeaderRanges.{taken_header}
 
 head_made : ℕ → ℕ → UnitHead
 head_made a b = record { ref_idc = a; unit_type = b }
@@ -32,9 +32,9 @@ pub record AreSame (header other : Header) (mbs others : List Macroblock) : Type
   pub of_header : header ≡ other
   pub of_macroblocks : mbs ≡ others
 
-pub same_slice : (info : PictureInfo) (size : SizeMbs) (payload : List ℕ) (header other : Header) (mbs others : List Macroblock) → IsAcceptedBySome info → IsWithinLimits size
+pub same_slice : (info : PictureInfo) (size : SizeMbs) (payload : List ℕ) (header other : Header) (mbs others : List Macroblock) → HasRanges info → IsWithinLimits size
     → SpellsSlice info size payload header mbs → SpellsSlice info size payload other others → AreSame header other mbs others
-same_slice info size payload header other mbs others accepted limits is also =
+same_slice info size payload header other mbs others ranges limits is also =
     let head = same_head payload header.head other.head is.first also.first in
     let moved = subst (λ (h : UnitHead). Takes (slice_header h info) (bits_behind payload) other also.rest) (sym head) also.elements in
     let same = takes_same (slice_header header.head info) (bits_behind payload) is.rest also.rest header other is.elements moved in
@@ -42,5 +42,5 @@ same_slice info size payload header other mbs others accepted limits is also =
     let b = subst (λ (bits : List Bool). AreSliceData info header size bits others) (sym same.1) a in
     record {
       of_header = same.0;
-      of_macroblocks = one_slice_data info header size is.rest mbs others limits (taken_header header.head info (bits_behind payload) header is.rest accepted is.elements).active is.macroblocks b;
+      of_macroblocks = one_slice_data info header size is.rest mbs others limits (found_header header.head info (bits_behind payload) header is.rest ranges is.elements).0.active is.macroblocks b;
     }

@@ -22,7 +22,7 @@ use Rattle.driver_model.specs.Renders.{Counts, Decodes, Render, Rendering, decod
 use Rattle.driver_model.specs.States.{State, Found, named, with_note}
 use Rattle.driver_model.specs.Surfaces.{with_picture}
 use Rattle.driver_model.proofs.Looks.{HasSize-named, err_not_ok, first_handle-Ok, ok_is, then_ok, unless_ok}
-use Rattle.driver_model.proofs.Pictures.{picture_one}
+use Rattle.vd_plane.proofs.OnePicture.{picture_one}
 use Rattle.driver_model.proofs.SameReplies.{TwoSteps, both_refused, err_one, goes_two}
 
 -- a test that fails is the first, or comes behind the first

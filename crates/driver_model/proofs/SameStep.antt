@@ -25,7 +25,8 @@ use Rattle.mixer.proofs.Pixels.{pixels_are_all}
 use Rattle.bits_io.proofs.Same.{put_after_get}
 use Rattle.driver_model.specs.declared.replies.Answer.{Answer}
 use Rattle.driver_model.specs.declared.replies.Answer.TheVariants.{Done, Holds, Name}
-use Rattle.driver_model.proofs.Pictures.{picture_one, zeros_one}
+use Rattle.vd_plane.proofs.OnePicture.{picture_one}
+use Rattle.driver_model.proofs.Pictures.{zeros_one}
 use Rattle.driver_model.proofs.SameRender.{render_two}
 use Rattle.driver_model.proofs.SameReplies.{TwoSteps, both_ok, both_refused, err_and_ok, goes_two, ok_and_err}
 

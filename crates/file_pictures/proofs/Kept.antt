@@ -14,7 +14,7 @@ use Rattle.cb_types.specs.declared.picture_info.PictureInfo.{PictureInfo}
 use Rattle.cb_types.specs.declared.picture_info.Reference.{Reference}
 use Rattle.recon.specs.References.{AreHeld, no_reference, reference_at}
 use Rattle.vd_plane.specs.declared.picture.Picture as samples
-use Rattle.access_units.specs.Stands.{AreOwn, has_number}
+use Rattle.access_units.specs.Pictures.{AreOwn, has_number}
 use Rattle.file_pictures.specs.Files.{Decoded, has_own_number, pictures_in, reference_of, references_of}
 use Rattle.file_pictures.specs.Offers.{HasNumber}
 use Rattle.file_pictures.specs.Streams.{AreNumbered}

@@ -4,3 +4,8 @@ pub mod Kept
 pub mod Steps
 pub mod Onward
 pub mod Answered
+pub mod OneContent
+pub mod OneGrouping
+pub mod OneList
+pub mod OneDecoded
+pub mod OneReading

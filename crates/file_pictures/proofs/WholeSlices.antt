@@ -218,6 +218,10 @@ settled_sound text is_ended front au settled =
           sound_at all.2.0 front au (subst AreSound all.2.1 of_all)
     ]
 
+-- An access unit whose first slice has a header has a slice.
+pub some_slices : (text : List ℕ) (is_ended : Bool) (front : List AccessUnit) (au : AccessUnit) → IsSettled text is_ended front au → au.first ≢ None → au.slices ≢ []
+some_slices text is_ended front au settled some empty = some ((settled_sound text is_ended front au settled).none empty)
+
 -- ---- the slices of the next picture
 
 slices_whole : (slices : List (List ℕ)) (first : Option Named) → IsSoundBy slices first → first ≢ None → (slices ≢ []) × All IsWholeUnit slices

@@ -40,7 +40,7 @@ IsWholeBehind before one =
     IsWhole (given info (size_in one.picture) (references_of before info)) (payloads_of one.picture.slices) one.samples
 
 -- The access unit is an accepted picture behind these, with these samples.
-pub record IsDecoded (before : List Decoded) (au : AccessUnit) (one : Decoded) : Type 0 where
+pub record IsAcceptedPicture (before : List Decoded) (au : AccessUnit) (one : Decoded) : Type 0 where
   pub picture : IsPicture (pictures_in before) au one.picture
   pub whole : IsWholeBehind before one
 
@@ -65,7 +65,7 @@ fault_of au = record { offset = au.offset; large = unwrap_or au.refused false }
 
 -- The access unit isn't accepted behind these: it is refused, or its slices come to no whole picture.
 pub record IsFirstRefused (before : List Decoded) (au : AccessUnit) : Type 0 where
-  pub not_decoded : (one : Decoded) → ¬ IsDecoded before au one
+  pub not_decoded : (one : Decoded) → ¬ IsAcceptedPicture before au one
   pub not_tail : au.refused ≡ None → au.slices ≡ [] → ⊥
 
 -- a byte stands at place 2^30
@@ -96,3 +96,7 @@ abbrev pub HasPictures : List ℕ → List Decoded → Option Fault → Type 0
 HasPictures text decoded fault =
     (IsTooLong text → (decoded ≡ []) × (fault ≡ Some (record { offset = 0; large = true })))
     × ((IsTooLong text → ⊥) → IsRead text decoded fault)
+
+-- A file has one reading: its accepted pictures, each with its samples, and where it isn't accepted, are settled by its bytes.
+abbrev pub HaveOneReading : Type 0
+HaveOneReading = (text : List ℕ) (a b : List Decoded) (f g : Option Fault) → HasPictures text a f → HasPictures text b g → (a ≡ b) × (f ≡ g)

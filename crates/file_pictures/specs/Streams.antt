@@ -4,10 +4,10 @@ use Rattle.std.specs.Arc.{arc_value}
 use Rattle.std.specs.List.{find}
 use Rattle.std.specs.Option.{option_map}
 use Rattle.access_units.specs.AccessUnits.{AccessUnit}
-use Rattle.access_units.specs.Acceptors.{IsSettled, Past}
+use Rattle.access_units.specs.Acceptors.{IsHungry, IsSettled, Past}
 use Rattle.access_units.specs.Depth.{depth_of}
 use Rattle.access_units.specs.Standing as acceptor
-use Rattle.file_pictures.specs.Files.{AreAllWhole, AreDecoded, Decoded, IsDecoded, IsReadTo, IsReadWhole, has_own_number, pictures_in}
+use Rattle.file_pictures.specs.Files.{AreAllWhole, AreDecoded, Decoded, IsAcceptedPicture, IsReadTo, IsReadWhole, has_own_number, pictures_in}
 use Rattle.file_pictures.specs.declared.stream_decoder.DecodedPicture.{DecodedPicture}
 use Rattle.file_pictures.specs.declared.stream_decoder.Step.{Step}
 use Rattle.file_pictures.specs.declared.stream_decoder.Step.TheVariants as step
@@ -71,11 +71,11 @@ pub record IsNextOne (stream : Stream) (one : Decoded) : Type 0 where
   pub au : AccessUnit
   pub settled : IsSettled stream.text stream.ended front au
   pub before : AreDecoded front stream.decoded
-  pub decoded : IsDecoded stream.decoded au one
+  pub decoded : IsAcceptedPicture stream.decoded au one
 
 -- What is answered, and what the decoder stands for behind it; behind a refused access unit, and behind the end, it isn't asked again.
 abbrev pub IsStep : Stream → Step → StreamDecoder → Type 0
-IsStep stream step.Hungry decoder = (stream.ended ≡ false) × StandsFor decoder stream
+IsStep stream step.Hungry decoder = IsHungry (past_of stream) × StandsFor decoder stream
 IsStep stream (step.Picture shown) decoder = (one : Decoded) × IsNextOne stream one × Shows shown one × StandsFor decoder (showing stream one)
 IsStep stream step.End decoder = (stream.ended ≡ true) × IsReadWhole stream.text stream.decoded
 IsStep stream (step.Refused offset large) decoder = IsReadTo stream.text stream.ended stream.decoded (record { offset = offset; large = large })

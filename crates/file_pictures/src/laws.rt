@@ -1,10 +1,16 @@
-// What the front of a file tells of the whole file.
+// What a file's bytes settle of its pictures.
 ghost use Rattle.std.specs.Prelude.{◌++◌, ℕ, Bool, false, List};
-ghost use Rattle.file_pictures.specs.Files.{Decoded, Fault, IsReadTo};
+ghost use Rattle.file_pictures.specs.Files.{Decoded, Fault, HaveOneReading, IsReadTo};
 
 /// Where an access unit that a front of a file settles isn't accepted, the file isn't accepted there, whatever
 /// follows.
 pub fn refusals_stay()
     ensures { (text more : List ℕ) (ended : Bool) (decoded : List Decoded) (fault : Fault)
         → IsReadTo text false decoded fault → IsReadTo (text ++ more) ended decoded fault }
+{}
+
+/// A file has one list of accepted pictures at most, with their samples, and one place at most where it isn't
+/// accepted.
+pub fn files_have_one_reading()
+    ensures { HaveOneReading }
 {}

@@ -4,5 +4,5 @@
 mod laws;
 mod stream_decoder;
 
-pub use laws::refusals_stay;
+pub use laws::{files_have_one_reading, refusals_stay};
 pub use stream_decoder::{DecodedPicture, Step, StreamDecoder};

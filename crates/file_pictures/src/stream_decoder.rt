@@ -1,6 +1,6 @@
 //! The pictures of a file whose bytes come in pieces, in decoding order, with their samples.
 
-ghost use Rattle.std.specs.Prelude.{◌≡◌, List, length, All, Some, None, OnOk, IfOk};
+ghost use Rattle.std.specs.Prelude.{◌≡◌, List, length, All, Some, None, OnOk, OnErr, IfOk};
 ghost use Rattle.std.specs.Arc.{arc_value};
 ghost use Rattle.std.specs.Option.{option_map};
 
@@ -79,7 +79,8 @@ impl StreamDecoder {
     /// changes.
     pub fn feed(&mut self, bytes: &[u8]) -> Result<(), AllocError>
         requires { (stream : Stream) × StandsFor self.old stream × MayFeed stream bytes.now }
-        ensures { OnOk result ((stream : Stream) → StandsFor self.old stream → MayFeed stream bytes.now → StandsFor self.new (streamed stream bytes.now)) }
+        ensures fed { OnOk result ((stream : Stream) → StandsFor self.old stream → MayFeed stream bytes.now → StandsFor self.new (streamed stream bytes.now)) }
+        ensures untouched { OnErr result ((stream : Stream) → StandsFor self.old stream → StandsFor self.new stream) }
     {
         self.acceptor.feed(bytes)
     }

@@ -79,7 +79,7 @@ broken_by t s b at all =
 
 -- each byte leads to some phase, so each text has one
 
-advance : (ph : Phase) (t : List ℕ) (s : List (ℕ × ℕ)) (b : ℕ) → IsPhase ph t s → (next : Phase) × (found : Found) × Advances t s b next found
+pub advance : (ph : Phase) (t : List ℕ) (s : List (ℕ × ℕ)) (b : ℕ) → IsPhase ph t s → (next : Phase) × (found : Found) × Advances t s b next found
 advance (phase.Broken at) t s b all = (phase.Broken at, found.Broken at, broken_by t s b at all)
 advance (phase.Outside z) t s b o =
     elim (cases_eq b 0) as (λ _. (next : Phase) × (found : Found) × Advances t s b next found) [

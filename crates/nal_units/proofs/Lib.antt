@@ -6,3 +6,4 @@ pub mod Advancing
 pub mod Pushing
 pub mod Skipping
 pub mod Joining
+pub mod Growing

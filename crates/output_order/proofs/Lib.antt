@@ -1,3 +1,4 @@
 pub mod HeldLemmas
 pub mod OrderLemmas
 pub mod WaitingLemmas
+pub mod ComesFirst

@@ -21,16 +21,17 @@ use Rattle.output_order.proofs.OrderLemmas.{count_in_order}
 use Rattle.output_order.proofs.WaitingLemmas.{waiting_is}
 use Rattle.access_units.specs.Depth.{depth_of}
 use Rattle.access_units.specs.Pictures.{IsSameSet, Picture, ordered, ordered_behind, periods}
+use Rattle.access_units.specs.Stands.{HasDepth}
 use Rattle.file_pictures.specs.Files.{Decoded, pictures_in}
 use Rattle.file_pictures.specs.Streams.{Shows}
 use Rattle.file_pictures.specs.declared.stream_decoder.DecodedPicture.{DecodedPicture}
 use Rattle.vdplay.specs.Output.{numbers_in_order, planes_at, planes_in_order, planes_of}
-use Rattle.vdplay.specs.Reports.{HasDepth, Holds, IsCalm, IsHeld, IsNextOf, IsOut, Stands, count_waiting, has_number, planes_out, pushed_by, with_out}
+use Rattle.vdplay.specs.Reports.{Holds, IsCalm, IsHeld, IsNextOf, IsOut, Stands, count_waiting, has_number, planes_out, pushed_by, with_out}
 use Rattle.vdplay.specs.Run.{AppendsFront}
 use Rattle.vdplay.specs.declared.plane_writer.Held.{Held}
 use Rattle.vdplay.specs.declared.plane_writer.PlaneWriter.{PlaneWriter}
 use Rattle.vdplay.proofs.NextLemmas.{joins_decoded, length_pictures, no_periods, periods_more}
-use Rattle.vdplay.proofs.Texts.{front_after, front_longer, whole_front}
+use Rattle.vdplay.proofs.Texts.{front_after, front_longer}
 
 -- ---- counts by number
 
@@ -121,7 +122,7 @@ pub planes_old : (one : Decoded) (before : List Decoded) (n : ℕ) → n < lengt
 unfolding planes_at
 planes_old one before n h = let apart : (n == length before) ≡ false = grind (arith, nat_tests) in rw apart refl
 
-out_old : (one : Decoded) (before : List Decoded) (out : List ℕ) → All (λ (n : ℕ). n < length before) out → flat_map (planes_at (one ∷ before)) out ≡ flat_map (planes_at before) out
+pub out_old : (one : Decoded) (before : List Decoded) (out : List ℕ) → All (λ (n : ℕ). n < length before) out → flat_map (planes_at (one ∷ before)) out ≡ flat_map (planes_at before) out
 out_old one before [] below = refl
 out_old one before (n ∷ out) below =
     let here = planes_old one before n (All-head (λ (m : ℕ). m < length before) n out below) in
@@ -136,7 +137,7 @@ planes_out_pushed writer decoded one h calm = out_old one decoded h.out calm.sta
 held_old : (one : Decoded) (decoded : List Decoded) (held : Held) → IsHeld decoded held → IsHeld (one ∷ decoded) held
 held_old one decoded held is = let within = is.within in record { within = omega arith; samples = is.samples ∙ sym (planes_old one decoded held.number is.within) }
 
-ordered_more : (one : Picture) (before : List Picture) → ordered (one ∷ before) ≡ ordered before ++ ordered_behind before one.begun ∷ []
+pub ordered_more : (one : Picture) (before : List Picture) → ordered (one ∷ before) ≡ ordered before ++ ordered_behind before one.begun ∷ []
 unfolding ordered
 ordered_more one before = refl
 
@@ -312,10 +313,10 @@ write_more a b c decoded out number bytes first second is =
     subst (Appends a c) whole (Appends-trans a b c (flat_map (planes_at decoded) out) bytes first second)
 
 pub write_part : (a b c : Option (List ℕ)) (decoded : List Decoded) (out : List ℕ) (number : ℕ) (bytes : List ℕ) → Appends a b (flat_map (planes_at decoded) out) → AppendsFront b c bytes → bytes ≡ planes_at decoded number
-    → order.IsFront (out ++ number ∷ []) (ordered (pictures_in decoded)) → AppendsFront a c (planes_in_order decoded)
-write_part a b c decoded out number bytes first second is front =
+    → AppendsFront a c (flat_map (planes_at decoded) (out ++ number ∷ []))
+write_part a b c decoded out number bytes first second is =
     let whole : flat_map (planes_at decoded) out ++ bytes ≡ flat_map (planes_at decoded) (out ++ number ∷ []) = ap (λ (xs : List ℕ). flat_map (planes_at decoded) out ++ xs) is ∙ sym (planes_more decoded out number) in
-    front_written a c decoded (out ++ number ∷ []) front (subst (AppendsFront a c) whole (front_after a b c (flat_map (planes_at decoded) out) bytes first second))
+    subst (AppendsFront a c) whole (front_after a b c (flat_map (planes_at decoded) out) bytes first second)
 
 -- ---- from call to call
 
@@ -359,28 +360,19 @@ ended_holds writer now decoded h holds stands items =
     let S : List Held → Type 0 = λ held. All (IsHeld decoded) held in
     record { waiting = stands; pushed = holds.pushed; out = holds.out; counts = subst C (sym items) holds.counts; samples = subst S (sym items) holds.samples }
 
--- What came out is a front of all, also behind a push that wasn't held.
-pub settled_front : (writer : PlaneWriter) (decoded : List Decoded) (h : order.History) (a b : Option (List ℕ)) → Holds writer decoded h → Appends a b (planes_out decoded h) → AppendsFront a b (planes_in_order decoded)
+-- What came out is a front of all.
+pub settled_front : (writer : PlaneWriter) (decoded : List Decoded) (h : order.History) (a b : Option (List ℕ)) → Holds writer decoded h → AppendsFront a b (planes_out decoded h) → AppendsFront a b (planes_in_order decoded)
 settled_front writer decoded h a b holds written =
     let F : List order.Picture → Type 0 = λ xs. order.IsFront h.out xs in
-    front_written a b decoded h.out (subst F holds.pushed (front_out writer.waiting h holds.waiting)) (whole_front a b (planes_out decoded h) written)
+    front_written a b decoded h.out (subst F holds.pushed (front_out writer.waiting h holds.waiting)) written
 
-pub held_front : (writer : PlaneWriter) (decoded : List Decoded) (one : Decoded) (h : order.History) (a b : Option (List ℕ)) → IsCalm writer decoded h → order.IsFront h.out (pushed_by h decoded one).pushed
-    → Appends a b (planes_out decoded h) → AppendsFront a b (planes_in_order (one ∷ decoded))
-held_front writer decoded one h a b calm front written =
-    let F : List order.Picture → Type 0 = λ xs. order.IsFront h.out xs in
-    let all : (pushed_by h decoded one).pushed ≡ ordered (pictures_in (one ∷ decoded)) =
-    ap (λ (xs : List order.Picture). xs ++ ordered_behind (pictures_in decoded) one.picture.begun ∷ []) calm.stands.holds.pushed ∙ sym (ordered_more one.picture (pictures_in decoded)) in
-    front_written a b (one ∷ decoded) h.out (subst F all front)
-    (whole_front a b (flat_map (planes_at (one ∷ decoded)) h.out) (subst (Appends a b) (sym (planes_out_pushed writer decoded one h calm)) written))
+pub with_depth : (h : order.History) (out : List ℕ) (pictures : List Picture) → HasDepth h pictures → HasDepth (with_out h out) pictures
+with_depth h out [] deep = deep
+with_depth h out (last ∷ before) deep = deep
 
 pub calm_behind : (writer now : PlaneWriter) (decoded : List Decoded) (h : order.History) (out : List ℕ) → Stands writer decoded h → Holds now decoded (with_out h out) → order.has_settled (with_out h out) ≡ false → now.count ≡ writer.count
     → IsCalm now decoded (with_out h out)
 calm_behind writer now decoded h out stands holds none count = record {
-  stands = record { holds = holds; period = stands.period; depth = depth_same decoded stands.depth; not_ended = stands.not_ended; count = count ∙ stands.count; few = stands.few };
+  stands = record { holds = holds; period = stands.period; depth = with_depth h out (pictures_in decoded) stands.depth; not_ended = stands.not_ended; count = count ∙ stands.count; few = stands.few };
   nothing_settled = none;
 }
-  where
-    depth_same : (list : List Decoded) → HasDepth h (pictures_in list) → HasDepth (with_out h out) (pictures_in list)
-    depth_same [] d = d
-    depth_same (last ∷ before) d = d

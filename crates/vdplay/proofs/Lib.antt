@@ -5,3 +5,4 @@ mod ReadingLemmas
 mod RunLemmas
 mod Settled
 mod Texts
+mod AheadLemmas

@@ -112,7 +112,7 @@ pub reads_at : (reader : FileReader) (known other : Option (List ℕ)) (decoded 
 reads_at reader known other decoded same reads = let R : Option (List ℕ) → Type 0 = λ k. ReadsOn reader k decoded in subst R same reads
 
 pub hungry : (stream : Stream) (answer : Step) (decoder : StreamDecoder) → IsStep stream answer decoder → answer ≡ step.Hungry → (stream.ended ≡ false) × StandsFor decoder stream
-hungry stream answer decoder is same = let S : Step → Type 0 = λ a. IsStep stream a decoder in subst S same is
+hungry stream answer decoder is same = let S : Step → Type 0 = λ a. IsStep stream a decoder in let now = subst S same is in (now.0.not_ended, now.1)
 
 pub answers_of : (old now : FileReader) (known : Option (List ℕ)) (stream : Stream) (answer : Step) → Reads old known stream → now.at ≡ old.at → now.ended ≡ old.ended → vec_len now.piece ≡ vec_len old.piece
     → (answer ≡ step.Hungry → ⊥) → IsStep stream answer now.decoder → Answers known stream answer now

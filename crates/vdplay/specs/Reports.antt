@@ -5,11 +5,13 @@ use Rattle.std.specs.List.{count_by}
 use Rattle.std.specs.Io.KnownBytes.{Appends}
 use Rattle.access_units.specs.AccessUnits.{AccessUnit}
 use Rattle.access_units.specs.Depth.{depth_of}
-use Rattle.access_units.specs.Pictures.{IsPicture, Picture, ordered, ordered_behind, periods}
+use Rattle.access_units.specs.Pictures.{IsPicture, ordered, ordered_behind, periods}
+use Rattle.access_units.specs.Stands.{HasDepth}
 use Rattle.file_pictures.specs.Files.{Decoded, pictures_in}
 use Rattle.output_order.specs.OutputOrder as order
 use Rattle.output_order.specs.Waiting as waiting
-use Rattle.vdplay.specs.Output.{picture_lines, planes_at, planes_of}
+use Rattle.vdplay.specs.Output.{picture_lines, pictures_text, planes_at, planes_of}
+use Rattle.vdplay.specs.Run.{Begin}
 use Rattle.vd_plane.specs.declared.picture.Picture as samples
 use Rattle.vdplay.specs.declared.command_line.Command.{Command}
 use Rattle.vdplay.specs.declared.command_line.Command.TheVariants.{Decode, Inspect}
@@ -55,10 +57,6 @@ pub record Holds (writer : PlaneWriter) (decoded : List Decoded) (h : order.Hist
   pub counts : (number : ℕ) → count_by (has_number number) writer.held.items ≡ count_waiting h number
   pub samples : All (IsHeld decoded) writer.held.items
 
-abbrev pub HasDepth : order.History → List Picture → Type 0
-HasDepth h [] = Unit {0}
-HasDepth h (last ∷ before) = h.depth ≡ depth_of last.sps
-
 -- The counts are those of these pictures, of which each was pushed.
 pub record Stands (writer : PlaneWriter) (decoded : List Decoded) (h : order.History) : Type 0 where
   pub holds : Holds writer decoded h
@@ -93,6 +91,17 @@ abbrev pub planes_out : List Decoded → order.History → List ℕ
 planes_out decoded h = flat_map (planes_at decoded) h.out
 
 -- ---- both
+
+-- Each of these is an accepted picture behind those before it, what its slices come to apart: they may follow those decoded.
+unfoldable pub MayFollow : List Decoded → List Decoded → Type 0
+MayFollow [] decoded = Unit {0}
+MayFollow (one ∷ more) decoded = MayFollow more decoded × ((au : AccessUnit) × IsPicture (pictures_in (more ++ decoded)) au one.picture)
+
+-- Some bytes were appended, and nothing else, with which the text of these pictures begins, whichever may follow them.
+pub record AppendsAhead (old new : Option (List ℕ)) (command : Command) (decoded : List Decoded) : Type 0 where
+  pub bytes : List ℕ
+  pub appended : Appends old new bytes
+  pub ahead : (more : List Decoded) → MayFollow more decoded → Begin bytes (pictures_text command (more ++ decoded))
 
 abbrev pub command_of : Report → Command
 command_of (Lines writer) = Inspect

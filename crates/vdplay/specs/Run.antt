@@ -1,5 +1,5 @@
 -- What a command reads and writes.
-use Rattle.std.specs.Prelude.{◌≡◌, ℕ, ◌⊎◌, List, [], ◌∷◌, take, Bool, true, false, if◌then◌else◌, Option, Some, None, Result, Ok, Err, IfSome}
+use Rattle.std.specs.Prelude.{◌≡◌, ℕ, ◌⊎◌, List, [], ◌∷◌, ◌++◌, take, Bool, true, false, if◌then◌else◌, Option, Some, None, Result, Ok, Err, IfSome}
 use Rattle.std.specs.Option.{option_map}
 use Rattle.std.specs.Io.KnownBytes.{Appends}
 use Rattle.access_units.specs.AccessUnits.{AccessUnit}
@@ -39,11 +39,20 @@ AreFirstPictures file decoded =
     (decoded ≡ [])
     ⊎ ((IsTooLong file → ⊥) × ((front : List AccessUnit) × ((au : AccessUnit) × IsSettled file true front au × AreDecoded (au ∷ front) decoded)))
 
--- A front of what the command writes was appended: of the first accepted pictures, or of all of them and what follows them.
-abbrev pub AppendsPart : Option (List ℕ) → Option (List ℕ) → Command → List ℕ → Type 0
-AppendsPart old new command file =
-    ((decoded : List Decoded) × AreFirstPictures file decoded × AppendsFront old new (pictures_text command decoded))
-    ⊎ ((decoded : List Decoded) × ((fault : Option Fault) × HasPictures file decoded fault × AppendsFront old new (text_of command decoded (place_of fault))))
+-- The text begins with these bytes.
+abbrev pub Begin : List ℕ → List ℕ → Type 0
+Begin bytes text = (rest : List ℕ) × (text ≡ bytes ++ rest)
+
+-- Some bytes were appended, perhaps none, and nothing else: a front of what the command writes of the whole file.
+pub record AppendsPart (old new : Option (List ℕ)) (command : Command) (file : List ℕ) : Type 0 where
+  pub bytes : List ℕ
+  pub appended : Appends old new bytes
+  -- with them begins the text of all the file's accepted pictures, and of what follows them,
+  pub whole : (decoded : List Decoded) (fault : Option Fault) → HasPictures file decoded fault → Begin bytes (text_of command decoded (place_of fault))
+  -- and that of the pictures that were read: of the first accepted ones, or of all of them and what follows
+  pub read :
+      ((decoded : List Decoded) × AreFirstPictures file decoded × Begin bytes (pictures_text command decoded))
+      ⊎ ((decoded : List Decoded) × ((fault : Option Fault) × HasPictures file decoded fault × Begin bytes (text_of command decoded (place_of fault))))
 
 -- What was appended, by how the run ended. A run that stopped early appended a part.
 abbrev pub HasAppended : Exit → Option (List ℕ) → Option (List ℕ) → Command → List ℕ → Type 0

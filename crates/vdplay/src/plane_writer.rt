@@ -6,10 +6,11 @@ ghost use Rattle.std.specs.Io.KnownBytes.{Appends};
 ghost use Rattle.vd_outside.specs.Count.{HasCause};
 ghost use Rattle.file_pictures.specs.Files.{Decoded};
 ghost use Rattle.file_pictures.specs.Streams.{Shows};
-ghost use Rattle.output_order.specs.OutputOrder.{History, IsFront, has_settled, nothing_yet, popping};
+ghost use Rattle.output_order.specs.OutputOrder.{History, has_settled, nothing_yet, popping};
 ghost use Rattle.vdplay.specs.Output.{planes_at, planes_in_order, planes_of};
 ghost use Rattle.vdplay.specs.Run.{AppendsFront};
-ghost use Rattle.vdplay.specs.Reports.{Holds, IsCalm, IsNextOf, IsOut, Stands, planes_out, pushed_by, with_out};
+ghost use Rattle.vdplay.specs.Reports.{AppendsAhead, Holds, IsCalm, IsNextOf, IsOut, Stands, planes_out, pushed_by, with_out};
+ghost use Rattle.vdplay.specs.declared.command_line.Command.TheVariants.{Decode};
 
 use crate::exit::Exit;
 use crate::writing::write_all;
@@ -56,7 +57,7 @@ impl PlaneWriter {
             (now : History) × IsCalm self.new (one ∷ decoded) now × Appends start (K.written sink.new) (planes_out (one ∷ decoded) now)) }
         ensures front { (decoded : List Decoded) (one : Decoded) (h : History) (start : Option (List ℕ)) → IsCalm self.old decoded h → IsNextOf decoded one → Shows shown one →
             Appends start (K.written sink.old) (planes_out decoded h) →
-            AppendsFront start (K.written sink.new) (planes_in_order (one ∷ decoded)) }
+            AppendsAhead start (K.written sink.new) Decode (one ∷ decoded) }
         ensures cause { HasCause (IsErrOf result Exit.WriteFault) (K.faults sink.old) (K.faults sink.new) }
         ensures faultless { OnOk result (K.faults sink.new ≡ K.faults sink.old) }
         ensures exits { IfErr result (λ exit. (exit ≡ Exit.WriteFault) ⊎ (exit ≡ Exit.OutOfMemory)) }
@@ -70,8 +71,6 @@ impl PlaneWriter {
         requires { (decoded : List Decoded) × ((one : Decoded) × ((h : History) × IsCalm self.old decoded h × IsNextOf decoded one × Shows shown one)) }
         ensures held { OnOk result ((decoded : List Decoded) (one : Decoded) (h : History) → IsCalm self.old decoded h → IsNextOf decoded one → Shows shown one →
             Stands self.new (one ∷ decoded) (pushed_by h decoded one)) }
-        ensures front { (decoded : List Decoded) (one : Decoded) (h : History) → IsCalm self.old decoded h → IsNextOf decoded one → Shows shown one →
-            IsFront h.out (pushed_by h decoded one).pushed }
         ensures exits { IfErr result (λ exit. exit ≡ Exit.OutOfMemory) }
     {
         let _ = self
@@ -110,7 +109,8 @@ impl PlaneWriter {
             Appends start (K.written sink.old) (planes_out decoded h) →
             (out : List ℕ) × Holds self.new decoded (with_out h out) × (has_settled (with_out h out) ≡ false) × Appends start (K.written sink.new) (planes_out decoded (with_out h out))) }
         ensures front { OnErr result ((decoded : List Decoded) (h : History) (start : Option (List ℕ)) → Holds self.old decoded h →
-            Appends start (K.written sink.old) (planes_out decoded h) → AppendsFront start (K.written sink.new) (planes_in_order decoded)) }
+            Appends start (K.written sink.old) (planes_out decoded h) →
+            (out : List ℕ) × Holds self.new decoded (with_out h out) × AppendsFront start (K.written sink.new) (planes_out decoded (with_out h out))) }
         ensures count { self.new.count ≡ self.old.count }
         ensures cause { HasCause (IsErrOf result Exit.WriteFault) (K.faults sink.old) (K.faults sink.new) }
         ensures faultless { OnOk result (K.faults sink.new ≡ K.faults sink.old) }

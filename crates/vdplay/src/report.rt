@@ -5,9 +5,9 @@ ghost use Rattle.std.specs.Io.KnownBytes.{Appends};
 ghost use Rattle.vd_outside.specs.Count.{HasCause};
 ghost use Rattle.file_pictures.specs.Files.{Decoded};
 ghost use Rattle.file_pictures.specs.Streams.{Shows};
-ghost use Rattle.vdplay.specs.Output.{pictures_text, text_of};
+ghost use Rattle.vdplay.specs.Output.{text_of};
 ghost use Rattle.vdplay.specs.Run.{AppendsFront};
-ghost use Rattle.vdplay.specs.Reports.{HasWritten, IsNextOf, command_of};
+ghost use Rattle.vdplay.specs.Reports.{AppendsAhead, HasWritten, IsNextOf, command_of};
 
 use crate::command_line::Command;
 use crate::exit::Exit;
@@ -42,7 +42,7 @@ impl Report {
         ensures written { OnOk result ((decoded : List Decoded) (one : Decoded) (start : Option (List ℕ)) → HasWritten self.old decoded start (K.written sink.old) → IsNextOf decoded one → Shows shown one →
             HasWritten self.new (one ∷ decoded) start (K.written sink.new)) }
         ensures front { (decoded : List Decoded) (one : Decoded) (start : Option (List ℕ)) → HasWritten self.old decoded start (K.written sink.old) → IsNextOf decoded one → Shows shown one →
-            AppendsFront start (K.written sink.new) (pictures_text (command_of self.old) (one ∷ decoded)) }
+            AppendsAhead start (K.written sink.new) (command_of self.old) (one ∷ decoded) }
         ensures command { command_of self.new ≡ command_of self.old }
         ensures cause { HasCause (IsErrOf result Exit.WriteFault) (K.faults sink.old) (K.faults sink.new) }
         ensures faultless { OnOk result (K.faults sink.new ≡ K.faults sink.old) }

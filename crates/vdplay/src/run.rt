@@ -25,7 +25,7 @@ pub fn run_plain<S: Shelf, K: Sink>(
     ensures untouched { result ≡ Exit.Usage → (shelf.new ≡ shelf.old) × (sink.new ≡ sink.old) }
 
     // What is written where shelf and sink tell their bytes: exactly the text of the file's accepted
-    // pictures where the run was decided by the file, and else a front of such a text.
+    // pictures where the run was decided by the file, and else a front of that text.
     ensures appended { (command : Command) (file : List ℕ) → IsTask (texts words.now) (S.content shelf.old) command file →
         HasAppended result (K.written sink.old) (K.written sink.new) command file }
 

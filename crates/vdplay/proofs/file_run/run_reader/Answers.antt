@@ -4,10 +4,10 @@ use Rattle.vd_outside.specs.Shelf.{told}
 use Rattle.std.proofs.Common.{Err, Option, List, ℕ, ◌∷◌}
 use Rattle.std.specs.Prelude.{IfSome}
 use Rattle.std.proofs.lemmas.Result.{err_from_is_err_and}
-use Rattle.vdplay.specs.Output.{pictures_text}
-use Rattle.vdplay.specs.Run.{AppendsFront, AreFirstPictures}
+use Rattle.vdplay.specs.Reports.{AppendsAhead}
+use Rattle.vdplay.specs.Run.{AreFirstPictures}
 use Rattle.vdplay.specs.declared.command_line.Command.{Command}
-use Rattle.vdplay.proofs.RunLemmas.{end_of_file, end_pictures, end_refused, end_stopped, few_written, first_part, goes_on, no_read, no_write, none_first, not_hungry, picked_at, reads_move, refused_pictures, stopped, stopped_reading, stopped_writing, written_front}
+use Rattle.vdplay.proofs.RunLemmas.{end_of_file, end_pictures, end_refused, end_stopped, few_written, first_part, goes_on, no_read, no_write, none_first, not_hungry, picked_at, reads_move, refused_pictures, stopped, stopped_reading, stopped_writing, written_ahead}
 use Rattle.vdplay.proofs.Texts.{on_ok_then}
 use Rattle.vdplay.proofs.file_run.run_reader.Goals as goal
 
@@ -61,9 +61,9 @@ pub returns-in_err-shown : goal.returns-in_err-shown
 returns-in_err-shown g c =
     let u = c.loop-given.invariant.4 in
     let p = err_from_is_err_and c.from_residual.result c.from_residual.ensures.1 in
-    let T : Command → Type 0 = λ command. AppendsFront (g.K.Sink.written c.args.sink.now) (g.K.Sink.written c.loop-given.sink) (pictures_text command u.stream.decoded) in
+    let T : Command → Type 0 = λ command. AppendsAhead (g.K.Sink.written c.args.sink.now) (g.K.Sink.written c.loop-given.sink) command u.stream.decoded in
     rw (p.1, p.2) (stopped _ _ _ _ _ _ _ _ c.in_err-shown.field-0.0 (stopped_reading _ c.in_err-shown.ensures.exits)
-    (first_part _ u.stream.decoded _ _ _ u.first (subst T c.loop-given.invariant.3 (written_front c.loop-given.report u.stream.decoded _ _ u.written)))
+    (first_part _ u.stream.decoded _ _ _ u.first (subst T c.loop-given.invariant.3 (written_ahead c.loop-given.report u.stream.decoded _ _ u.written)))
     (λ e. rw (← c.loop-given.invariant.1) (c.in_err-shown.ensures.cause (ap Err e)))
     (no_write _ _ c.in_err-shown.ensures.exits))
 
@@ -86,7 +86,7 @@ returns-in_err-picture-in-Picture g c =
     let reads = reads_move c.loop-given.reader _ _ u.stream (ap (λ files. told files c.args.name.now) (sym c.loop-given.invariant.0)) u.reads in
     let p = picked_at _ u.stream.decoded c.in_ok-shown.field-0 c.in-Picture.shown c.next.new.self c.in-Picture.is (c.in_ok-shown.ensures.answer u.stream reads) c.in_ok-shown.ensures.depth in
     let q = err_from_is_err_and c.from_residual-in_err-picture-in-Picture.result c.from_residual-in_err-picture-in-Picture.ensures.1 in
-    let T : Command → Type 0 = λ command. AppendsFront (g.K.Sink.written c.args.sink.now) (g.K.Sink.written c.picture.new.sink) (pictures_text command (p.one ∷ u.stream.decoded)) in
+    let T : Command → Type 0 = λ command. AppendsAhead (g.K.Sink.written c.args.sink.now) (g.K.Sink.written c.picture.new.sink) command (p.one ∷ u.stream.decoded) in
     let F : Option (List ℕ) → Type 0 = λ k. IfSome k (λ file. AreFirstPictures file (p.one ∷ u.stream.decoded)) in
     let first = subst F (ap (λ files. told files c.args.name.now) c.loop-given.invariant.0) p.first in
     rw (q.1, q.2) (stopped _ _ _ _ _ _ _ _ c.in_err-picture-in-Picture.field-0.0 (stopped_writing _ c.in_err-picture-in-Picture.ensures.exits)

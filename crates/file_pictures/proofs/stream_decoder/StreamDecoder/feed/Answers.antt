@@ -1,6 +1,6 @@
 use Rattle.std.proofs.Common.{Result, Ok, Err}
-use Rattle.std.specs.Prelude.{OnOk}
-use Rattle.file_pictures.proofs.Steps.{fed_stream, feeds}
+use Rattle.std.specs.Prelude.{OnErr, OnOk}
+use Rattle.file_pictures.proofs.Steps.{asked, fed_stream, feeds}
 use Rattle.file_pictures.specs.Streams.{past_of}
 use Rattle.file_pictures.proofs.stream_decoder.StreamDecoder.feed.Goals as goal
 
@@ -8,8 +8,15 @@ on_ok : {T E P Q : Type 0} (r : Result T E) → (P → Q) → OnOk r P → OnOk 
 on_ok (Ok x) f h = f h
 on_ok (Err e) f h = h
 
+on_err : {T E P Q : Type 0} (r : Result T E) → (P → Q) → OnErr r P → OnErr r Q
+on_err (Ok x) f h = h
+on_err (Err e) f h = f h
+
 pub feed-requires : goal.feed-requires
 feed-requires c = let stream = c.requires.0 in (past_of stream, c.requires.1.acceptor, feeds stream _ c.requires.2)
 
-pub returns : goal.returns
-returns c = on_ok c.feed.result (λ fed stream stands may. fed_stream c.args.self.now _ stream c.args.bytes.now stands (fed (past_of stream) stands.acceptor (feeds stream _ may))) c.feed.ensures.fed
+pub returns-clause-fed : goal.returns-clause-fed
+returns-clause-fed c = on_ok c.feed.result (λ fed stream stands may. fed_stream c.args.self.now _ stream c.args.bytes.now stands (fed (past_of stream) stands.acceptor (feeds stream _ may))) c.feed.ensures.fed
+
+pub returns-clause-untouched : goal.returns-clause-untouched
+returns-clause-untouched c = on_err c.feed.result (λ kept stream stands. asked c.args.self.now _ stream stands (kept (past_of stream) stands.acceptor)) c.feed.ensures.untouched

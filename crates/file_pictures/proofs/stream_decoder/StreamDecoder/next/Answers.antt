@@ -27,7 +27,7 @@ returns-in-Hungry-clause-step c = λ stream stands.
     let F : Next → Type 0 = λ n. IsAnswer (past_of stream) n in
     let B : Next → Type 0 = λ n. acceptor.StandsBehindAnswer c.next.new.self (past_of stream) n in
     let hungry = subst F c.in-Hungry.is (c.in_ok-next.ensures.answer (past_of stream) stands.acceptor (may_ask stream)) in
-    (hungry.not_ended, asked c.args.self.now c.next.new.self stream stands (subst B c.in-Hungry.is (c.in_ok-next.ensures.stands (past_of stream) stands.acceptor (may_ask stream))))
+    (hungry, asked c.args.self.now c.next.new.self stream stands (subst B c.in-Hungry.is (c.in_ok-next.ensures.stands (past_of stream) stands.acceptor (may_ask stream))))
 
 pub returns-in-End-clause-step : goal.returns-in-End-clause-step
 returns-in-End-clause-step c = λ stream stands.

@@ -11,4 +11,4 @@ returns-clause-reads g c = λ stream reads open_ended.
     let M : List ℕ → Type 0 = λ buf. MayFeed stream (take c.in_ok-n.n buf) in
     let S : List ℕ → Type 0 = λ buf. StandsFor c.feed.new.self (streamed stream (take c.in_ok-n.n buf)) in
     let may = may_feed c.args.self.now _ stream c.read_piece.new.piece c.in_ok-n.n reads open_ended within c.in_ok-n.ensures.room in
-    reads_on c.args.self.now _ _ stream c.read_piece.new.piece c.in_ok-n.n reads open_ended (subst S same (c.in_ok-feed.ensures stream reads.decoder (subst M (sym same) may))) within refl c.in_ok-n.ensures.room refl reads.piece c.in_ok-n.ensures.bytes
+    reads_on c.args.self.now _ _ stream c.read_piece.new.piece c.in_ok-n.n reads open_ended (subst S same (c.in_ok-feed.ensures.fed stream reads.decoder (subst M (sym same) may))) within refl c.in_ok-n.ensures.room refl reads.piece c.in_ok-n.ensures.bytes

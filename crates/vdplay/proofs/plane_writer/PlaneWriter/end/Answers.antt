@@ -4,7 +4,7 @@ use Rattle.output_order.specs.OutputOrder.{ending}
 use Rattle.vdplay.specs.Output.{planes_in_order}
 use Rattle.vdplay.specs.Reports.{with_out}
 use Rattle.vdplay.specs.Run.{AppendsFront}
-use Rattle.vdplay.proofs.HoldLemmas.{all_out, ended_holds}
+use Rattle.vdplay.proofs.HoldLemmas.{all_out, ended_holds, settled_front}
 use Rattle.vdplay.proofs.Texts.{by_result, on_err_then, on_ok_then, whole_front}
 use Rattle.vdplay.proofs.plane_writer.PlaneWriter.end.Goals as goal
 
@@ -30,4 +30,8 @@ returns-clause-front g c = λ decoded h start calm written.
     whole_front start (g.K.Sink.written c.write_settled.new.sink) (planes_in_order decoded)
     (subst (Appends start (g.K.Sink.written c.write_settled.new.sink)) (all_out c.write_settled.new.self decoded (with_out (ending h) done.0) done.1 refl done.2) done.3))
     c.write_settled.ensures.written)
-    (on_err_then c.write_settled.result _ _ (λ parts. parts decoded (ending h) start holds written) c.write_settled.ensures.front)
+    (on_err_then c.write_settled.result _ _
+    (λ parts.
+    let part = parts decoded (ending h) start holds written in
+    settled_front c.write_settled.new.self decoded (with_out (ending h) part.0) start (g.K.Sink.written c.write_settled.new.sink) part.1 part.2)
+    c.write_settled.ensures.front)

@@ -2,7 +2,7 @@ use mir.Syntax.{w32}
 use mir.Val.{SFits}
 use Rattle.std.proofs.Common.{◌∙◌, refl, rules, arith, sym}
 use Rattle.std.proofs.lemmas.Int.{to_z-of_z}
-use Rattle.vdplay.proofs.HoldLemmas.{front_out, may_push, pushed_items, pushed_waiting, stands_pushed}
+use Rattle.vdplay.proofs.HoldLemmas.{may_push, pushed_items, pushed_waiting, stands_pushed}
 use Rattle.vdplay.proofs.plane_writer.PlaneWriter.hold.Goals as goal
 
 pub push-requires-clause-most : goal.push-requires-clause-most
@@ -13,18 +13,6 @@ push-requires-clause-may c = let r = c.requires in (r.1.1.0, r.1.1.1.stands.hold
 
 pub overflow_add-self : goal.overflow_add-self
 overflow_add-self c = let r = c.requires in let count = r.1.1.1.stands.count in let few = r.1.1.1.stands.few in omega (arith, count, few)
-
-pub returns-then-is_err-clause-front : goal.returns-then-is_err-clause-front
-returns-then-is_err-clause-front c = λ decoded one h calm next shows.
-    let fits : SFits w32 c.args.shown.poc = search rules in
-    let poc = to_z-of_z w32 c.args.shown.poc fits ∙ shows.poc in
-    front_out _ _ (pushed_waiting c.args.self.now decoded one h _ c.args.shown.period c.args.shown.depth c.push.result c.push.new.self calm next poc shows.period shows.depth c.push.ensures.late c.push.ensures.stands)
-
-pub returns-clause-front : goal.returns-clause-front
-returns-clause-front c = λ decoded one h calm next shows.
-    let fits : SFits w32 c.args.shown.poc = search rules in
-    let poc = to_z-of_z w32 c.args.shown.poc fits ∙ shows.poc in
-    front_out _ _ (pushed_waiting c.args.self.now decoded one h _ c.args.shown.period c.args.shown.depth c.push.result c.push.new.self calm next poc shows.period shows.depth c.push.ensures.late c.push.ensures.stands)
 
 pub returns-clause-held : goal.returns-clause-held
 returns-clause-held c = λ decoded one h calm next shows.

@@ -1,10 +1,10 @@
 use Rattle.std.proofs.Common.{◌∷◌, sym, subst}
 use Rattle.std.specs.Io.KnownBytes.{Appends}
-use Rattle.vdplay.specs.Output.{planes_in_order}
-use Rattle.vdplay.specs.Reports.{pushed_by, with_out}
-use Rattle.vdplay.specs.Run.{AppendsFront}
-use Rattle.vdplay.proofs.HoldLemmas.{calm_behind, held_front, planes_out_pushed, settled_front}
-use Rattle.vdplay.proofs.Texts.{by_result, on_err_then, on_ok_then}
+use Rattle.vdplay.specs.Reports.{AppendsAhead, planes_out, pushed_by, with_out}
+use Rattle.vdplay.specs.declared.command_line.Command.TheVariants.{Decode}
+use Rattle.vdplay.proofs.AheadLemmas.{ahead_of_next, calm_ahead, out_ahead}
+use Rattle.vdplay.proofs.HoldLemmas.{calm_behind, planes_out_pushed}
+use Rattle.vdplay.proofs.Texts.{by_result, on_err_then, on_ok_then, whole_front}
 use Rattle.vdplay.proofs.plane_writer.PlaneWriter.picture.Goals as goal
 
 pub hold-requires : goal.hold-requires
@@ -12,7 +12,7 @@ hold-requires g c = c.requires
 
 pub returns-in_err-hold-clause-front : goal.returns-in_err-hold-clause-front
 returns-in_err-hold-clause-front g c = λ decoded one h start calm next shows written.
-    held_front c.args.self.now decoded one h start (g.K.Sink.written c.args.sink.now) calm (c.hold.ensures.front decoded one h calm next shows) written
+    ahead_of_next start (g.K.Sink.written c.args.sink.now) Decode decoded one next (calm_ahead c.args.self.now decoded h start (g.K.Sink.written c.args.sink.now) calm written)
 
 pub write_settled-requires : goal.write_settled-requires
 write_settled-requires g c = let r = c.requires in
@@ -30,10 +30,16 @@ pub returns-clause-front : goal.returns-clause-front
 returns-clause-front g c = λ decoded one h start calm next shows written.
     let stands = c.in_ok-hold.ensures.held decoded one h calm next shows in
     let more = subst (Appends start (g.K.Sink.written c.args.sink.now)) (sym (planes_out_pushed c.args.self.now decoded one h calm)) written in
-    by_result c.write_settled.result (AppendsFront start (g.K.Sink.written c.write_settled.new.sink) (planes_in_order (one ∷ decoded)))
+    let after = g.K.Sink.written c.write_settled.new.sink in
+    let pushed = pushed_by h decoded one in
+    by_result c.write_settled.result (AppendsAhead start after Decode (one ∷ decoded))
     (on_ok_then c.write_settled.result _ _
     (λ settles.
-    let done = settles (one ∷ decoded) (pushed_by h decoded one) start stands.holds more in
-    settled_front c.write_settled.new.self (one ∷ decoded) (with_out (pushed_by h decoded one) done.0) start (g.K.Sink.written c.write_settled.new.sink) done.1 done.3)
+    let done = settles (one ∷ decoded) pushed start stands.holds more in
+    out_ahead c.hold.new.self c.write_settled.new.self (one ∷ decoded) pushed done.0 start after stands done.1 (whole_front start after (planes_out (one ∷ decoded) (with_out pushed done.0)) done.3))
     c.write_settled.ensures.written)
-    (on_err_then c.write_settled.result _ _ (λ parts. parts (one ∷ decoded) (pushed_by h decoded one) start stands.holds more) c.write_settled.ensures.front)
+    (on_err_then c.write_settled.result _ _
+    (λ parts.
+    let part = parts (one ∷ decoded) pushed start stands.holds more in
+    out_ahead c.hold.new.self c.write_settled.new.self (one ∷ decoded) pushed part.0 start after stands part.1 part.2)
+    c.write_settled.ensures.front)

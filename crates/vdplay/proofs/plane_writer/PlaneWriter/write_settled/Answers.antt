@@ -1,7 +1,4 @@
-use Rattle.std.proofs.Common.{◌∙◌, ◌++◌, ◌∷◌, [], None, refl, ap, subst}
-use Rattle.output_order.specs.OutputOrder.{IsFront}
-use Rattle.output_order.specs.OutputOrder as order
-use Rattle.std.proofs.Common.{List}
+use Rattle.std.proofs.Common.{◌∙◌, ◌++◌, ◌∷◌, [], None, refl, ap}
 use Rattle.vdplay.specs.Output.{planes_of}
 use Rattle.vdplay.specs.Reports.{with_out}
 use Rattle.vdplay.proofs.HoldLemmas.{write_more, write_part}
@@ -17,10 +14,11 @@ next_out-requires g c = let r = c.requires in let more = c.loop-samples.invarian
 pub returns-in_err-write_picture-clause-front : goal.returns-in_err-write_picture-clause-front
 returns-in_err-write_picture-clause-front g c = on_err_any c.from_residual.result _ (λ decoded h start holds written.
     let before = c.loop-samples.invariant.2 decoded h start holds written in
-    let out = c.in-Some.ensures.next decoded (with_out h before.0) before.1 in
-    let F : List order.Picture → Type 0 = λ xs. IsFront (before.0 ++ out.number ∷ []) xs in
-    write_part start (g.K.Sink.written c.loop-samples.sink) (g.K.Sink.written c.write_picture.new.sink) decoded before.0 out.number _ before.2 c.write_picture.ensures.front
-    (ap planes_of c.deref.ensures ∙ out.planes) (subst F before.1.pushed out.front))
+    let out = c.in-Some.ensures.next decoded (with_out h before.0) before.1 in (
+      before.0 ++ out.number ∷ [],
+      out.holds,
+      write_part start (g.K.Sink.written c.loop-samples.sink) (g.K.Sink.written c.write_picture.new.sink) decoded before.0 out.number _ before.2 c.write_picture.ensures.front (ap planes_of c.deref.ensures ∙ out.planes),
+    ))
 
 pub loop-samples-preserved : goal.loop-samples-preserved
 loop-samples-preserved g c = (

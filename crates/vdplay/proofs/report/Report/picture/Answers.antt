@@ -1,17 +1,13 @@
-use Rattle.std.proofs.Common.{◌≡◌, ◌++◌, ◌∷◌, List, refl, sym, ap, subst}
+use Rattle.std.proofs.Common.{◌∷◌, sym, ap, subst}
 use Rattle.std.specs.Io.KnownBytes.{Appends}
 use Rattle.std.proofs.KnownBytes.{Appends-trans}
-use Rattle.file_pictures.specs.Files.{Decoded}
-use Rattle.vdplay.specs.Output.{picture_line, picture_lines, pictures_text}
-use Rattle.vdplay.specs.Reports.{HasWritten, command_of}
+use Rattle.vdplay.specs.Output.{picture_line, picture_lines}
+use Rattle.vdplay.specs.Reports.{AppendsAhead, HasWritten, command_of}
 use Rattle.vdplay.specs.Run.{AppendsFront}
 use Rattle.vdplay.specs.declared.report.Report.{Report}
+use Rattle.vdplay.proofs.AheadLemmas.{lines_ahead, lines_more}
 use Rattle.vdplay.proofs.Texts.{front_after, on_ok_then}
 use Rattle.vdplay.proofs.report.Report.picture.Goals as goal
-
-lines_more : (one : Decoded) (before : List Decoded) → picture_lines (one ∷ before) ≡ picture_lines before ++ picture_line before one
-unfolding picture_lines
-lines_more one before = refl
 
 pub picture-requires : goal.picture-requires
 picture-requires g c =
@@ -39,7 +35,7 @@ pub returns-in-Planes-clause-front : goal.returns-in-Planes-clause-front
 returns-in-Planes-clause-front g c = λ decoded one start written next shows.
     let W : Report → Type 0 = λ report. HasWritten report decoded start (g.K.Sink.written c.args.sink.now) in
     let w = subst W c.in-Planes.is written in
-    let T : Report → Type 0 = λ report. AppendsFront start (g.K.Sink.written c.picture.new.sink) (pictures_text (command_of report) (one ∷ decoded)) in
+    let T : Report → Type 0 = λ report. AppendsAhead start (g.K.Sink.written c.picture.new.sink) (command_of report) (one ∷ decoded) in
     subst T (sym c.in-Planes.is) (c.picture.ensures.front decoded one w.0 start w.1 next shows w.2)
 
 pub returns-in-Planes-clause-command : goal.returns-in-Planes-clause-command
@@ -60,9 +56,11 @@ pub returns-in-Lines-clause-front : goal.returns-in-Lines-clause-front
 returns-in-Lines-clause-front g c = λ decoded one start written next shows.
     let W : Report → Type 0 = λ report. HasWritten report decoded start (g.K.Sink.written c.args.sink.now) in
     let w = subst W c.in-Lines.is written in
-    let T : Report → Type 0 = λ report. AppendsFront start (g.K.Sink.written c.picture-in-Lines.new.sink) (pictures_text (command_of report) (one ∷ decoded)) in
-    subst T (sym c.in-Lines.is) (subst (AppendsFront start (g.K.Sink.written c.picture-in-Lines.new.sink)) (sym (lines_more one decoded))
-    (front_after start (g.K.Sink.written c.args.sink.now) (g.K.Sink.written c.picture-in-Lines.new.sink) (picture_lines decoded) (picture_line decoded one) w.1 (c.picture-in-Lines.ensures.front decoded one w.0 next shows)))
+    let T : Report → Type 0 = λ report. AppendsAhead start (g.K.Sink.written c.picture-in-Lines.new.sink) (command_of report) (one ∷ decoded) in
+    subst T (sym c.in-Lines.is)
+    (lines_ahead start (g.K.Sink.written c.picture-in-Lines.new.sink) (one ∷ decoded)
+    (subst (AppendsFront start (g.K.Sink.written c.picture-in-Lines.new.sink)) (sym (lines_more one decoded))
+    (front_after start (g.K.Sink.written c.args.sink.now) (g.K.Sink.written c.picture-in-Lines.new.sink) (picture_lines decoded) (picture_line decoded one) w.1 (c.picture-in-Lines.ensures.front decoded one w.0 next shows))))
 
 pub returns-in-Lines-clause-command : goal.returns-in-Lines-clause-command
 returns-in-Lines-clause-command g c = ap command_of (sym c.in-Lines.is)

@@ -1,0 +1,5 @@
+use Rattle.file_pictures.proofs.OneReading.{one_reading}
+use Rattle.file_pictures.proofs.laws.files_have_one_reading.Goals as goal
+
+pub returns : goal.returns
+returns c = one_reading

@@ -9,6 +9,8 @@ mod line_writer;
 mod plane_writer;
 mod report;
 mod run;
+#[cfg(test)]
+mod tests;
 mod writing;
 
 pub use exit::Exit;

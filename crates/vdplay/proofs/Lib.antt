@@ -1,6 +1,7 @@
 mod Fronts
 mod HoldLemmas
 mod NextLemmas
+mod PartLemmas
 mod ReadingLemmas
 mod RunLemmas
 mod Settled

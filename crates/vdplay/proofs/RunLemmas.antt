@@ -1,20 +1,20 @@
 -- What a run has read and written.
-use Rattle.std.proofs.Common.{zero, suc, ◌-◌, nat_lt, length-drop, ◌≡◌, ℕ, ◌+◌, ◌<◌, ◌≤◌, ◌⊎◌, inl, inr, Bool, true, false, List, [], ◌∷◌, ◌++◌, length, drop, take, Option, Some, None, Result, Ok, Err, refl, sym, ap, subst, ◌∙◌, append-nil, arith}
+use Rattle.std.proofs.Common.{zero, suc, ◌-◌, nat_lt, length-drop, ◌≡◌, ℕ, ◌+◌, ◌<◌, ◌≤◌, ◌⊎◌, inl, inr, Bool, true, false, List, [], ◌∷◌, length, drop, Option, Some, None, Result, Ok, Err, refl, sym, ap, subst, ◌∙◌, arith}
 use Rattle.std.specs.Prelude.{IfErr, IfSome, IsErrOf, MatchBool, OnOk}
 use Rattle.std.specs.Io.KnownBytes.{Appends}
 use Rattle.access_units.specs.AccessUnits.{AccessUnit}
 use Rattle.access_units.specs.Pictures.{ArePictures}
-use Rattle.file_pictures.specs.Files.{AreAllWhole, AreDecoded, Decoded, Fault, HasPictures, IsAcceptedPicture, IsReadTo, IsReadWhole, IsTooLong, pictures_in}
+use Rattle.file_pictures.specs.Files.{AreAllWhole, AreDecoded, Decoded, Fault, HasPictures, IsAcceptedPicture, IsReadTo, IsReadWhole, IsTooLong}
 use Rattle.file_pictures.specs.Streams.{HasSmallDepth, IsNextOne, Shows, Stream, showing}
 use Rattle.file_pictures.specs.declared.stream_decoder.DecodedPicture.{DecodedPicture}
 use Rattle.file_pictures.specs.declared.stream_decoder.Step.{Step}
 use Rattle.file_pictures.specs.declared.stream_decoder.Step.TheVariants as step
 use Rattle.vd_outside.specs.Count.{HasCause}
 use Rattle.vd_outside.specs.Shelf.{Fills}
-use Rattle.vdplay.specs.Output.{end_text, picture_lines, pictures_text, text_of}
+use Rattle.vdplay.specs.Output.{picture_lines, text_of}
 use Rattle.vdplay.specs.Reading.{IsAnswer, IsFrontOf, Reads}
-use Rattle.vdplay.specs.Reports.{AppendsAhead, HasWritten, IsNextOf, MayFollow, command_of}
-use Rattle.vdplay.specs.Run.{AppendsFront, AppendsPart, AppendsText, AreFirstPictures, Begin, HasAppended, HasRun, IsDecided, IsStopped, exit_in, place_of, refusal_of}
+use Rattle.vdplay.specs.Reports.{AppendsAhead, HasWritten, IsNextOf, command_of}
+use Rattle.vdplay.specs.Run.{AppendsFront, AppendsPart, AppendsText, AreFirstPictures, HasAppended, HasRun, IsDecided, IsStopped, exit_in, place_of, refusal_of}
 use Rattle.vdplay.specs.declared.command_line.Command.{Command}
 use Rattle.vdplay.specs.declared.exit.Exit.{Exit}
 use Rattle.vdplay.specs.declared.exit.Exit.TheVariants.{Done, ReadFault, WriteFault, OutOfMemory}
@@ -22,8 +22,8 @@ use Rattle.vdplay.specs.declared.file_reader.FileReader.{FileReader}
 use Rattle.vdplay.specs.declared.report.Report.{Report}
 use Rattle.vdplay.specs.declared.report.Report.TheVariants.{Lines, Planes}
 use Rattle.std.proofs.lemmas.Bool.Decides.{nat_tests}
-use Rattle.file_pictures.proofs.OneReading.{are_decoded, first_pictures, one_reading}
-use Rattle.vdplay.proofs.AheadLemmas.{all_follow, begin_longer, calm_ahead, front_begins, lines_ahead, none_follows, nothing_ahead}
+use Rattle.vdplay.proofs.AheadLemmas.{calm_ahead, lines_ahead, nothing_ahead}
+use Rattle.vdplay.proofs.PartLemmas.{end_part, first_part, none_first, text_appended}
 use Rattle.vdplay.proofs.Settled.{settled_in}
 use Rattle.vdplay.proofs.Texts.{whole_front}
 
@@ -70,59 +70,6 @@ refused (Some file) stream fault short front to = (
 pub too_long : (known : Option (List ℕ)) → IfSome known (λ file. 1073741824 < length file) → IfSome known (λ file. HasPictures file [] (Some (record { offset = 0; large = true })))
 too_long None long = tt
 too_long (Some file) long = (λ same. (refl, refl), λ fits. absurd (fits long))
-
--- ---- what was appended
-
-pub text_appended : (known : Option (List ℕ)) (decoded : List Decoded) (fault : Option Fault) (command : Command) (old new : Option (List ℕ)) → IfSome known (λ file. HasPictures file decoded fault)
-    → Appends old new (text_of command decoded (place_of fault)) → IfSome known (λ file. AppendsText old new command file fault)
-text_appended None decoded fault command old new has text = tt
-text_appended (Some file) decoded fault command old new has text = record { decoded = decoded; pictures = has; text = text }
-
-pub end_part : (known : Option (List ℕ)) (decoded : List Decoded) (fault : Option Fault) (command : Command) (old new : Option (List ℕ)) → IfSome known (λ file. HasPictures file decoded fault)
-    → AppendsFront old new (text_of command decoded (place_of fault)) → IfSome known (AppendsPart old new command)
-end_part None decoded fault command old new has text = tt
-end_part (Some file) decoded fault command old new has part =
-    let text = text_of command decoded (place_of fault) in
-    let front = front_begins part.0 text in
-    record {
-      bytes = take part.0 text;
-      appended = part.1;
-      whole = λ others other_fault also.
-          let same = one_reading file decoded others fault other_fault has also in
-          let F : Option Fault → Type 0 = λ f. Begin (take part.0 text) (text_of command decoded (place_of f)) in
-          let D : List Decoded → Type 0 = λ l. Begin (take part.0 text) (text_of command l (place_of other_fault)) in
-          subst D same.0 (subst F same.1 front);
-      read = inr (decoded, (fault, has, front));
-    }
-
--- The first accepted pictures of a file are the first of all, whatever these are.
-first_of_all : (file : List ℕ) (decoded all : List Decoded) (fault : Option Fault) → AreFirstPictures file decoded → HasPictures file all fault → (more : List Decoded) × (all ≡ more ++ decoded) × MayFollow more decoded
-first_of_all file decoded all fault first has =
-    let are = are_decoded file all fault has in
-    let P : List Decoded → Type 0 = λ l. ArePictures are.0 (pictures_in l) in
-    let part : (more : List Decoded) × (all ≡ more ++ decoded) =
-    elim first [
-      | inl none ↦ (all, sym (append-nil all) ∙ ap (λ (l : List Decoded). all ++ l) (sym none))
-      | inr some ↦ first_pictures file some.1.0 some.1.1.0 decoded all fault some.1.1.1 some.1.1.2 (has.1 some.0)
-    ] in
-    (part.0, part.1, all_follow part.0 decoded are.0 (subst P part.1 are.1.pictures))
-
-pub first_part : (known : Option (List ℕ)) (decoded : List Decoded) (command : Command) (old new : Option (List ℕ)) → IfSome known (λ file. AreFirstPictures file decoded)
-    → AppendsAhead old new command decoded → IfSome known (AppendsPart old new command)
-first_part None decoded command old new first ahead = tt
-first_part (Some file) decoded command old new first ahead = record {
-  bytes = ahead.bytes;
-  appended = ahead.appended;
-  whole = λ all fault has.
-      let part = first_of_all file decoded all fault first has in
-      let B : List Decoded → Type 0 = λ l. Begin ahead.bytes (pictures_text command l) in
-      begin_longer ahead.bytes (pictures_text command all) (end_text command (place_of fault)) (subst B (sym part.1) (ahead.ahead part.0 part.2));
-  read = inl (decoded, first, ahead.ahead [] (none_follows decoded));
-}
-
-pub none_first : (known : Option (List ℕ)) → IfSome known (λ file. AreFirstPictures file [])
-none_first None = tt
-none_first (Some file) = inl refl
 
 -- ---- how it ended
 

@@ -10,8 +10,9 @@ use Rattle.present_queue.specs.Queue.{Names, Queue, Queued, holds, shows}
 use Rattle.vd_status.specs.declared.refusal.Refusal.TheVariants.{OutOfMemory}
 use Rattle.driver_model.specs.Answers.{Reply}
 use Rattle.driver_model.specs.Histories.{Happens, Leads}
-use Rattle.driver_model.specs.Laws.{FrontsAreLegal, HasSizes, HistoriesHaveSizes, HistoriesLeadToOneState, IdleSurfacesAreNotNamed, NamesAreGiven, NamesAreGivenOnce, RefusalsAreOne, RefusalsLeaveTheState, StepsLeaveOneState, given_by}
+use Rattle.driver_model.specs.Laws.{FrontsAreLegal, HasSizes, HistoriesHaveSizes, HistoriesLeadToOneState, IdleSurfacesAreNotNamed, NamesAreGiven, NamesAreGivenOnce, RefusalsAreOne, RefusalsLeaveTheState, StepsLeaveOneState}
 use Rattle.driver_model.specs.Objects.{Object}
+use Rattle.driver_model.specs.Parts.{given_by}
 use Rattle.driver_model.specs.Presented.{is_idle_at, is_queued_at, is_visible_at, queues_of}
 use Rattle.driver_model.specs.States.{State, counted, empty_state, is_given}
 use Rattle.driver_model.specs.Steps.{Step}
@@ -94,7 +95,7 @@ fronts_are_legal front rest legal = let r = leads_front empty_state legal.0 fron
 
 -- ---- names
 
-cons_given : (given : Option ℕ) (before later : List ℕ) → (before ++ option_to_list given) ++ later ≡ before ++ cons_option given later
+pub cons_given : (given : Option ℕ) (before later : List ℕ) → (before ++ option_to_list given) ++ later ≡ before ++ cons_option given later
 cons_given None before later = ap (λ l. l ++ later) (append-nil before)
 cons_given (Some name) before later = append_assoc before (name ∷ []) later
 

@@ -9,6 +9,7 @@ pub mod Leading
 pub mod Waiting
 mod WorkedCases
 mod WorkedCreates
+mod WorkedParts
 pub mod Named
 pub mod Rows
 pub mod PlainKinds
@@ -21,3 +22,28 @@ pub mod SoundSteps
 pub mod Agree
 pub mod LiveQueues
 pub mod FoundSizes
+pub mod PartPlaces
+pub mod PartContents
+pub mod PartTicks
+pub mod PartLooks
+pub mod PartNotes
+pub mod PartStates
+pub mod PartFinds
+pub mod PartRows
+pub mod PartWishes
+pub mod PartClock
+pub mod PartCreates
+pub mod PartJobs
+pub mod PartFirsts
+pub mod PartSteps
+pub mod PartStill
+pub mod PartEffects
+pub mod PartCalls
+pub mod PartOwned
+pub mod PartItems
+pub mod PartNames
+pub mod PartStages
+pub mod PartItemSteps
+pub mod PartLeads
+pub mod PartHistories
+pub mod PartAlike

@@ -29,7 +29,7 @@ pub refused_if-Ok : (test : Bool) (refusal : Refusal) → refused_if test refusa
 refused_if-Ok true refusal h = absurd (err_not_ok refusal tt h)
 refused_if-Ok false refusal h = refl
 
-in_use-Ok : {T : Type 0} (s : State) (arg : ℕ) (found : Option (Found T)) (on : Found T) → in_use s arg found ≡ Ok on → found ≡ Some on
+pub in_use-Ok : {T : Type 0} (s : State) (arg : ℕ) (found : Option (Found T)) (on : Found T) → in_use s arg found ≡ Ok on → found ≡ Some on
 in_use-Ok s arg None on h = absurd (err_not_ok _ on h)
 in_use-Ok s arg (Some found) on h = alive (is_preempted s found.device) h where
   alive : (preempted : Bool) → (if preempted then Err Preempted else Ok found) ≡ Ok on → Some found ≡ Some on

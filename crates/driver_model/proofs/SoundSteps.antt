@@ -159,7 +159,7 @@ module _ (old new : State) (caller : List ℕ) (reply : Reply) where
 
 -- ---- a history
 
-step_sound : (old new : State) (caller : List ℕ) (call : Call) (reply : Reply) → AreSound old.objects → Step old caller call reply new → AreSound new.objects
+pub step_sound : (old new : State) (caller : List ℕ) (call : Call) (reply : Reply) → AreSound old.objects → Step old caller call reply new → AreSound new.objects
 step_sound old new caller call reply sound (inl lacks) = subst (λ (t : State). AreSound t.objects) (sym lacks.1.1) sound
 step_sound old new caller call reply sound (inr does) = does_sound old new caller reply call sound does
 

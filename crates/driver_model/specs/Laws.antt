@@ -1,9 +1,10 @@
 -- What follows from the definitions.
-use Rattle.std.specs.Prelude.{◌≡◌, ◌≢◌, ◌↔◌, ℕ, Bool, true, false, not, List, ◌++◌, map, filter_map, AllPairs, slice_get, Option, Some, None, Err, ⊤}
+use Rattle.std.specs.Prelude.{◌≡◌, ◌≢◌, ◌↔◌, ℕ, Bool, true, false, not, List, ◌++◌, map, filter_map, AllPairs, slice_get, Some, Err, ⊤}
 use Rattle.std.specs.List.{AllByRecursion}
 use Rattle.cb_types.specs.AcceptedInfo.{takes_weights}
 use Rattle.cb_types.specs.SizeMbs.{IsWithinLimits}
 use Rattle.cb_types.specs.declared.size.SizeMbs.{SizeMbs}
+use Rattle.handle_table.specs.Name.{kind_of}
 use Rattle.present_queue.specs.Queue.{Names, Queue}
 use Rattle.vd_status.specs.declared.refusal.Refusal.{Refusal}
 use Rattle.vd_status.specs.declared.refusal.Refusal.TheVariants.{Bitstream, Incomplete, OutOfMemory}
@@ -11,17 +12,19 @@ use Rattle.driver_model.specs.Answers.{Reply}
 use Rattle.driver_model.specs.Histories.{IsLegal, IsStateOf}
 use Rattle.driver_model.specs.Kept.{is_in_queue}
 use Rattle.driver_model.specs.Objects.{Content, VideoObject, OutputObject, DecoderObject, MixerObject}
-use Rattle.driver_model.specs.Parts.{name_given}
+use Rattle.driver_model.specs.Parts.{NamesOneDevice, given_by, is_among, is_creation, names_of, part, part_of_front}
 use Rattle.driver_model.specs.Presented.{is_idle_at, queues_of}
+use Rattle.driver_model.specs.SameDevice.{IsAlike}
 use Rattle.driver_model.specs.Sizes.{is_within_limits}
 use Rattle.driver_model.specs.Sound.{AreSound}
 use Rattle.driver_model.specs.States.{State}
 use Rattle.driver_model.specs.Steps.{Step}
 use Rattle.driver_model.specs.Waits.{Waits}
 use Rattle.driver_model.specs.declared.calls.Call.{Call}
+use Rattle.driver_model.specs.declared.items.Entry.{Entry}
 use Rattle.driver_model.specs.declared.items.Item.{Item}
-use Rattle.driver_model.specs.declared.items.Item.TheVariants.{Called, Ended}
-use Rattle.driver_model.specs.declared.numbers.TheConstants.{WEIGHTED_BASELINE}
+use Rattle.driver_model.specs.declared.items.Item.TheVariants.{Called}
+use Rattle.driver_model.specs.declared.numbers.TheConstants.{DEVICE, WEIGHTED_BASELINE}
 
 -- The size of an object that has one is within the limits.
 abbrev pub HasSize : Content → Type 0
@@ -46,11 +49,6 @@ HistoriesLeadToOneState = (history : List Item) (s t : State) → IsStateOf hist
 
 abbrev pub HistoriesHaveSizes : Type 0
 HistoriesHaveSizes = (history : List Item) (s : State) → IsStateOf history s → HasSizes s
-
--- the name that an item gives
-abbrev pub given_by : Item → Option ℕ
-given_by (Called entry) = name_given entry.reply
-given_by (Ended mark) = None
 
 -- The names of all objects are those that the history gave, in the order in which it gave them, and no two are equal.
 abbrev pub NamesAreGiven : Type 0
@@ -116,3 +114,44 @@ LimitsAreOne = (size : SizeMbs) → (is_within_limits size ≡ true) ↔ IsWithi
 -- Of all profiles it is this one whose infos may have weighted_pred_flag (H.264, 7.4.2.2).
 abbrev pub OneProfileTakesWeights : Type 0
 OneProfileTakesWeights = (profile : ℕ) → (takes_weights profile ≡ true) ↔ (profile ≡ WEIGHTED_BASELINE)
+
+-- Each call of the history that is about the device names objects of that device alone.
+abbrev pub CallsNameOneDevice : List Item → ℕ → Type 0
+CallsNameOneDevice history device = (place : ℕ) (entry : Entry) → slice_get history place ≡ Some (Called entry) → NamesOneDevice history device entry
+
+-- Where that is so in a legal history, what is about the device, which is a name of this kind, is a legal history by itself.
+abbrev pub PartsAreLegal : Type 0
+PartsAreLegal =
+    (history : List Item) (device : ℕ)
+    → IsLegal history
+    → kind_of device ≡ DEVICE
+    → CallsNameOneDevice history device
+    → IsLegal (part history device)
+
+-- What the part has of a front of the history is a front of the part.
+abbrev pub PartsBeginAlike : Type 0
+PartsBeginAlike =
+    (front rest : List Item) (device : ℕ)
+    → (others : List Item) × (part (front ++ rest) device ≡ part_of_front (front ++ rest) device front ++ others)
+
+-- At each moment of the history, the state to which the part has led has the device and its objects as the whole's state has them.
+abbrev pub PartsHaveTheDevice : Type 0
+PartsHaveTheDevice =
+    (front rest : List Item) (device : ℕ) (s t : State)
+    → IsLegal (front ++ rest)
+    → kind_of device ≡ DEVICE
+    → CallsNameOneDevice (front ++ rest) device
+    → IsStateOf front s
+    → IsStateOf (part_of_front (front ++ rest) device front) t
+    → (name : ℕ)
+    → is_among (names_of (front ++ rest) device) name ≡ true
+    → IsAlike s t name
+
+-- The name that a device is given in a legal history is one of this kind.
+abbrev pub DevicesHaveTheirKind : Type 0
+DevicesHaveTheirKind =
+    (history : List Item) (place device : ℕ) (entry : Entry)
+    → IsLegal history
+    → slice_get history place ≡ Some (Called entry)
+    → is_creation device entry.call entry.reply ≡ true
+    → kind_of device ≡ DEVICE

@@ -18,6 +18,7 @@ pub mod Histories
 pub mod Waits
 pub mod Passes
 pub mod Parts
+pub mod SameDevice
 pub mod ShownPictures
 pub mod FlipText
 pub mod Sound

@@ -1,7 +1,9 @@
 -- The part of a history that is about one device.
-use Rattle.std.specs.Prelude.{ℕ, ◌+◌, ◌==◌, Bool, true, false, not, ◌&&◌, ◌||◌, if◌then◌else◌, List, [], ◌∷◌, ◌++◌, filter_map, position, Option, Some, None, Ok, Err}
+use Rattle.std.specs.Prelude.{◌≡◌, ℕ, ◌+◌, ◌==◌, Bool, true, false, not, ◌&&◌, ◌||◌, if◌then◌else◌, List, [], ◌∷◌, ◌++◌, map, filter_map, position, Option, Some, None, Ok, Err}
 use Rattle.std.specs.List.{list_any}
-use Rattle.std.specs.Option.{option_map_or}
+use Rattle.std.specs.Option.{option_map_or, option_to_list}
+use Rattle.cb_types.specs.References.{is_absent, is_unused}
+use Rattle.cb_types.specs.declared.picture_info.Reference.{Reference}
 use Rattle.vd_status.specs.declared.refusal.Refusal.TheVariants.{HandlesFull}
 use Rattle.driver_model.specs.Answers.{Reply}
 use Rattle.driver_model.specs.declared.calls.Call.{Call}
@@ -58,6 +60,21 @@ first_name call.Kept = None
 first_name (call.Render decoder target info bytes) = Some decoder
 first_name (call.Mix mixer structure video output) = Some mixer
 
+-- An entry for a reference that is used, and isn't a frame that was left out, names a surface.
+abbrev pub reference_name : Reference → Option ℕ
+reference_name entry = if is_unused entry || is_absent entry then None else Some entry.surface
+
+-- every name among a call's arguments
+abbrev pub names_in : Call → List ℕ
+names_in (call.QueueDisplay queue surface earliest) = queue ∷ surface ∷ []
+names_in (call.QueryStatus queue surface) = queue ∷ surface ∷ []
+names_in (call.BlockUntilIdle queue surface) = queue ∷ surface ∷ []
+names_in (call.Poll wishes) = map wish_name wishes
+names_in (call.WaitUntil wishes) = map wish_name wishes
+names_in (call.Render decoder target info bytes) = decoder ∷ target ∷ filter_map reference_name info.references
+names_in (call.Mix mixer structure video output) = mixer ∷ video ∷ output ∷ []
+names_in other = option_to_list (first_name other)
+
 -- the name that a reply gives
 abbrev pub name_given : Reply → Option ℕ
 name_given (Ok (Name name)) = Some name
@@ -75,6 +92,25 @@ made_on device (Ended mark) = None
 -- the device's name, and those of all its objects
 abbrev pub names_of : List Item → ℕ → List ℕ
 names_of history device = device ∷ filter_map (made_on device) history
+
+-- the number is one of the names
+abbrev pub is_among : List ℕ → ℕ → Bool
+is_among names name = list_any (λ other. other == name) names
+
+-- the name that an item gives
+abbrev pub given_by : Item → Option ℕ
+given_by (Called entry) = name_given entry.reply
+given_by (Ended mark) = None
+
+-- A call with one of these names as its first names objects of one device alone, the device that has these names: none of its names is
+-- one that the history gave to another device's object.
+abbrev pub NamesOneDevice : List Item → ℕ → Entry → Type 0
+NamesOneDevice history device entry =
+    list_any (λ name. is_first name entry.call) (names_of history device) ≡ true
+    → (name : ℕ)
+    → is_among (names_in entry.call) name ≡ true
+    → is_among (filter_map given_by history) name ≡ true
+    → is_among (names_of history device) name ≡ true
 
 -- the entry is the creation of this device
 abbrev pub is_creation : ℕ → Call → Reply → Bool
@@ -110,3 +146,7 @@ part_from device names places here (Ended mark ∷ later) =
 -- the part of a history that is about the device of this name
 abbrev pub part : List Item → ℕ → List Item
 part history device = part_from device (names_of history device) [] 0 history
+
+-- what that part has of a front of the history
+abbrev pub part_of_front : List Item → ℕ → List Item → List Item
+part_of_front history device front = part_from device (names_of history device) [] 0 front

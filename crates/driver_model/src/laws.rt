@@ -1,5 +1,5 @@
 // What follows from the definitions.
-ghost use Rattle.driver_model.specs.Laws.{FrontsAreLegal, HistoriesHaveSizes, HistoriesLeadToOneState, IdleSurfacesAreNotNamed, LimitsAreOne, LiveQueuesDecide, NamesAreGiven, NamesAreGivenOnce, OneProfileTakesWeights, QueuesAreSound, RefusalsAreOne, RefusalsLeaveTheState, StepsLeaveOneState, WaitingCallsAreNotAnswered};
+ghost use Rattle.driver_model.specs.Laws.{DevicesHaveTheirKind, FrontsAreLegal, HistoriesHaveSizes, HistoriesLeadToOneState, IdleSurfacesAreNotNamed, LimitsAreOne, LiveQueuesDecide, NamesAreGiven, NamesAreGivenOnce, OneProfileTakesWeights, PartsAreLegal, PartsBeginAlike, PartsHaveTheDevice, QueuesAreSound, RefusalsAreOne, RefusalsLeaveTheState, StepsLeaveOneState, WaitingCallsAreNotAnswered};
 
 /// The state behind a call is settled by the state before it, the caller, the call and its reply.
 pub fn steps_leave_one_state()
@@ -50,4 +50,14 @@ pub fn queues_are_sound()
 pub fn numbers_agree()
     ensures sizes { LimitsAreOne }
     ensures weights { OneProfileTakesWeights }
+{}
+
+/// What is about one device in a legal history is a legal history by itself, where each call of it names objects of
+/// that device alone. What it has of a front of the history is a front of it, and leads to a state that has the
+/// device and its objects as the whole's state has them. The name that is given to a device has the kind of devices.
+pub fn parts_are_legal()
+    ensures legal { PartsAreLegal }
+    ensures fronts { PartsBeginAlike }
+    ensures states { PartsHaveTheDevice }
+    ensures devices { DevicesHaveTheirKind }
 {}

@@ -17,7 +17,7 @@ pub use calls::{Call, Wish};
 pub use items::{Entry, Item, Mark};
 pub use laws::{
     histories_lead_to_one_state, idle_surfaces_are_not_named, names_are_given_once, numbers_agree,
-    queues_are_sound, refusals_leave_the_state, steps_leave_one_state,
+    parts_are_legal, queues_are_sound, refusals_leave_the_state, steps_leave_one_state,
     waiting_calls_are_not_answered,
 };
 pub use numbers::{

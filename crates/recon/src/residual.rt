@@ -17,7 +17,11 @@ use int_transform::{chroma_dc, luma_dc, residual};
 pub fn has_levels(levels: &Levels) -> bool
     ensures { result ≡ has_levels levels.now.0 }
 {
-    levels.0.iter().any(|level| *level != 0)
+    let mut some = false;
+    for level in &levels.0 {
+        some |= *level != 0;
+    }
+    some
 }
 
 /// Adds the residual of a 4x4 block to the samples of a macroblock that stand in rows of `stride`.

@@ -9,3 +9,5 @@ pub mod OneGrouping
 pub mod OneList
 pub mod OneDecoded
 pub mod OneReading
+pub mod SomeContent
+pub mod SomeReading

@@ -46,7 +46,7 @@ told_rest text (unit ∷ later) a each = told_rest text later a each.0
 
 -- ---- fewer units are the first of more
 
-reverse_twice : {A : Type 0} (xs : List A) → reverse (reverse xs) ≡ xs
+pub reverse_twice : {A : Type 0} (xs : List A) → reverse (reverse xs) ≡ xs
 reverse_twice [] = refl
 reverse_twice (x ∷ xs) = ap reverse (reverse_onto xs x []) ∙ reverse-append (reverse xs) (x ∷ []) ∙ ap (λ ys. x ∷ ys) (reverse_twice xs)
 

@@ -50,10 +50,6 @@ nothing_ahead start command decoded = record { bytes = []; appended = Appends-ni
 
 -- ---- what may follow
 
-pub none_follows : (decoded : List Decoded) → MayFollow [] decoded
-unfolding MayFollow
-none_follows decoded = tt
-
 follows_too : (more : List Decoded) (one : Decoded) (decoded : List Decoded) (au : AccessUnit) → IsPicture (pictures_in decoded) au one.picture → MayFollow more (one ∷ decoded) → MayFollow (more ++ one ∷ []) decoded
 unfolding MayFollow
 follows_too [] one decoded au is follow = (tt, (au, is))

@@ -1,15 +1,23 @@
 -- What was appended, of all of a file or of a part of it.
-use Rattle.std.proofs.Common.{◌≡◌, ℕ, inl, inr, List, [], ◌++◌, take, Option, Some, None, refl, sym, ap, subst, ◌∙◌, append-nil}
+use Rattle.std.proofs.Common.{◌≡◌, ℕ, ◌⊎◌, inl, inr, true, List, [], ◌∷◌, ◌++◌, take, Option, Some, None, refl, sym, ap, subst, ◌∙◌, append-nil}
 use Rattle.std.specs.Prelude.{IfSome}
 use Rattle.std.specs.Io.KnownBytes.{Appends}
+use Rattle.access_units.specs.AccessUnits.{AccessUnit}
+use Rattle.access_units.specs.Acceptors.{IsSettled}
 use Rattle.access_units.specs.Pictures.{ArePictures}
-use Rattle.file_pictures.specs.Files.{Decoded, Fault, HasPictures, pictures_in}
+use Rattle.file_pictures.specs.Files.{AreDecoded, Decoded, Fault, HasPictures, IsTooLong, pictures_in}
 use Rattle.file_pictures.proofs.OneReading.{are_decoded, first_pictures, one_reading}
 use Rattle.vdplay.specs.Output.{end_text, pictures_text, text_of}
 use Rattle.vdplay.specs.Reports.{AppendsAhead, MayFollow}
-use Rattle.vdplay.specs.Run.{AppendsFront, AppendsPart, AppendsText, AreFirstPictures, Begin, place_of}
+use Rattle.vdplay.specs.Run.{AppendsFront, AppendsPart, AppendsText, Begin, place_of}
 use Rattle.vdplay.specs.declared.command_line.Command.{Command}
-use Rattle.vdplay.proofs.AheadLemmas.{all_follow, begin_longer, front_begins, none_follows}
+use Rattle.vdplay.proofs.AheadLemmas.{all_follow, begin_longer, front_begins}
+
+-- Each of the first access units of the file is an accepted picture, and these are they, perhaps none.
+abbrev pub AreFirstPictures : List ℕ → List Decoded → Type 0
+AreFirstPictures file decoded =
+    (decoded ≡ [])
+    ⊎ ((IsTooLong file → ⊥) × ((front : List AccessUnit) × ((au : AccessUnit) × IsSettled file true front au × AreDecoded (au ∷ front) decoded)))
 
 pub text_appended : (known : Option (List ℕ)) (decoded : List Decoded) (fault : Option Fault) (command : Command) (old new : Option (List ℕ)) → IfSome known (λ file. HasPictures file decoded fault)
     → Appends old new (text_of command decoded (place_of fault)) → IfSome known (λ file. AppendsText old new command file fault)
@@ -21,16 +29,15 @@ pub end_part : (known : Option (List ℕ)) (decoded : List Decoded) (fault : Opt
 end_part None decoded fault command old new has text = tt
 end_part (Some file) decoded fault command old new has part =
     let text = text_of command decoded (place_of fault) in
-    let front = front_begins part.0 text in
+    let begun = front_begins part.0 text in
     record {
       bytes = take part.0 text;
       appended = part.1;
-      whole = λ others other_fault also.
+      front = λ others other_fault also.
           let same = one_reading file decoded others fault other_fault has also in
           let F : Option Fault → Type 0 = λ f. Begin (take part.0 text) (text_of command decoded (place_of f)) in
           let D : List Decoded → Type 0 = λ l. Begin (take part.0 text) (text_of command l (place_of other_fault)) in
-          subst D same.0 (subst F same.1 front);
-      read = inr (decoded, (fault, has, front));
+          subst D same.0 (subst F same.1 begun);
     }
 
 -- The first accepted pictures of a file are the first of all, whatever these are.
@@ -51,11 +58,10 @@ first_part None decoded command old new first ahead = tt
 first_part (Some file) decoded command old new first ahead = record {
   bytes = ahead.bytes;
   appended = ahead.appended;
-  whole = λ all fault has.
+  front = λ all fault has.
       let part = first_of_all file decoded all fault first has in
       let B : List Decoded → Type 0 = λ l. Begin ahead.bytes (pictures_text command l) in
       begin_longer ahead.bytes (pictures_text command all) (end_text command (place_of fault)) (subst B (sym part.1) (ahead.ahead part.0 part.2));
-  read = inl (decoded, first, ahead.ahead [] (none_follows decoded));
 }
 
 pub none_first : (known : Option (List ℕ)) → IfSome known (λ file. AreFirstPictures file [])

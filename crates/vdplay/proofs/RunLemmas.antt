@@ -14,7 +14,7 @@ use Rattle.vd_outside.specs.Shelf.{Fills}
 use Rattle.vdplay.specs.Output.{picture_lines, text_of}
 use Rattle.vdplay.specs.Reading.{IsAnswer, IsFrontOf, Reads}
 use Rattle.vdplay.specs.Reports.{AppendsAhead, HasWritten, IsNextOf, command_of}
-use Rattle.vdplay.specs.Run.{AppendsFront, AppendsPart, AppendsText, AreFirstPictures, HasAppended, HasRun, IsDecided, IsStopped, exit_in, place_of, refusal_of}
+use Rattle.vdplay.specs.Run.{AppendsFront, AppendsPart, AppendsText, HasAppended, HasRun, IsDecided, IsStopped, exit_in, place_of, refusal_of}
 use Rattle.vdplay.specs.declared.command_line.Command.{Command}
 use Rattle.vdplay.specs.declared.exit.Exit.{Exit}
 use Rattle.vdplay.specs.declared.exit.Exit.TheVariants.{Done, ReadFault, WriteFault, OutOfMemory}
@@ -23,7 +23,7 @@ use Rattle.vdplay.specs.declared.report.Report.{Report}
 use Rattle.vdplay.specs.declared.report.Report.TheVariants.{Lines, Planes}
 use Rattle.std.proofs.lemmas.Bool.Decides.{nat_tests}
 use Rattle.vdplay.proofs.AheadLemmas.{calm_ahead, lines_ahead, nothing_ahead}
-use Rattle.vdplay.proofs.PartLemmas.{end_part, first_part, none_first, text_appended}
+use Rattle.vdplay.proofs.PartLemmas.{AreFirstPictures, end_part, first_part, none_first, text_appended}
 use Rattle.vdplay.proofs.Settled.{settled_in}
 use Rattle.vdplay.proofs.Texts.{whole_front}
 

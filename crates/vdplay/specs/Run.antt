@@ -1,14 +1,12 @@
 -- What a command reads and writes.
-use Rattle.std.specs.Prelude.{◌≡◌, ℕ, ◌⊎◌, List, [], ◌∷◌, ◌++◌, take, Bool, true, false, if◌then◌else◌, Option, Some, None, Result, Ok, Err, IfSome}
+use Rattle.std.specs.Prelude.{◌≡◌, ℕ, ◌⊎◌, List, ◌++◌, take, Bool, true, false, if◌then◌else◌, Option, Some, None, Result, Ok, Err, IfSome}
 use Rattle.std.specs.Option.{option_map}
 use Rattle.std.specs.Io.KnownBytes.{Appends}
-use Rattle.access_units.specs.AccessUnits.{AccessUnit}
-use Rattle.access_units.specs.Acceptors.{IsSettled}
-use Rattle.file_pictures.specs.Files.{AreDecoded, Decoded, Fault, HasPictures, IsTooLong}
+use Rattle.file_pictures.specs.Files.{Decoded, Fault, HasPictures}
 use Rattle.vd_outside.specs.Count.{HasCause}
 use Rattle.vd_outside.specs.Shelf.{Files, told}
 use Rattle.vdplay.specs.CommandLine.{IsLine}
-use Rattle.vdplay.specs.Output.{pictures_text, text_of}
+use Rattle.vdplay.specs.Output.{text_of}
 use Rattle.vdplay.specs.declared.command_line.Command.{Command}
 use Rattle.vdplay.specs.declared.exit.Exit.{Exit}
 use Rattle.vdplay.specs.declared.exit.Exit.TheVariants.{Done, Usage, ReadFault, BadStream, WriteFault, OutOfMemory, TooLarge}
@@ -33,26 +31,16 @@ pub record AppendsText (old new : Option (List ℕ)) (command : Command) (file :
 abbrev pub AppendsFront : Option (List ℕ) → Option (List ℕ) → List ℕ → Type 0
 AppendsFront old new bytes = (n : ℕ) × Appends old new (take n bytes)
 
--- Each of the first access units of the file is an accepted picture, and these are they, perhaps none.
-abbrev pub AreFirstPictures : List ℕ → List Decoded → Type 0
-AreFirstPictures file decoded =
-    (decoded ≡ [])
-    ⊎ ((IsTooLong file → ⊥) × ((front : List AccessUnit) × ((au : AccessUnit) × IsSettled file true front au × AreDecoded (au ∷ front) decoded)))
-
 -- The text begins with these bytes.
 abbrev pub Begin : List ℕ → List ℕ → Type 0
 Begin bytes text = (rest : List ℕ) × (text ≡ bytes ++ rest)
 
--- Some bytes were appended, perhaps none, and nothing else: a front of what the command writes of the whole file.
+-- Some bytes were appended, perhaps none, and nothing else. What the command writes of the whole file begins with them: of all its
+-- accepted pictures, also those that weren't read, and of what follows them.
 pub record AppendsPart (old new : Option (List ℕ)) (command : Command) (file : List ℕ) : Type 0 where
   pub bytes : List ℕ
   pub appended : Appends old new bytes
-  -- with them begins the text of all the file's accepted pictures, and of what follows them,
-  pub whole : (decoded : List Decoded) (fault : Option Fault) → HasPictures file decoded fault → Begin bytes (text_of command decoded (place_of fault))
-  -- and that of the pictures that were read: of the first accepted ones, or of all of them and what follows
-  pub read :
-      ((decoded : List Decoded) × AreFirstPictures file decoded × Begin bytes (pictures_text command decoded))
-      ⊎ ((decoded : List Decoded) × ((fault : Option Fault) × HasPictures file decoded fault × Begin bytes (text_of command decoded (place_of fault))))
+  pub front : (decoded : List Decoded) (fault : Option Fault) → HasPictures file decoded fault → Begin bytes (text_of command decoded (place_of fault))
 
 -- What was appended, by how the run ended. A run that stopped early appended a part.
 abbrev pub HasAppended : Exit → Option (List ℕ) → Option (List ℕ) → Command → List ℕ → Type 0

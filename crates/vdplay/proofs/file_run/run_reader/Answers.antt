@@ -5,9 +5,8 @@ use Rattle.std.proofs.Common.{Err, Option, List, ℕ, ◌∷◌}
 use Rattle.std.specs.Prelude.{IfSome}
 use Rattle.std.proofs.lemmas.Result.{err_from_is_err_and}
 use Rattle.vdplay.specs.Reports.{AppendsAhead}
-use Rattle.vdplay.specs.Run.{AreFirstPictures}
 use Rattle.vdplay.specs.declared.command_line.Command.{Command}
-use Rattle.vdplay.proofs.PartLemmas.{first_part, none_first}
+use Rattle.vdplay.proofs.PartLemmas.{AreFirstPictures, first_part, none_first}
 use Rattle.vdplay.proofs.RunLemmas.{end_of_file, end_pictures, end_refused, end_stopped, few_written, goes_on, no_read, no_write, not_hungry, picked_at, reads_move, refused_pictures, stopped, stopped_reading, stopped_writing, written_ahead}
 use Rattle.vdplay.proofs.Texts.{on_ok_then}
 use Rattle.vdplay.proofs.file_run.run_reader.Goals as goal

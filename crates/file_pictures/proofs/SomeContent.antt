@@ -1,5 +1,5 @@
 -- It isn't so that a unit tells nothing.
-use Rattle.std.proofs.Common.{◌≡◌, ℕ, ◌==◌, Bool, true, false, ◌||◌, List, [], ◌∷◌, ◌++◌, Option, Some, None, inl, inr, ◌⊎◌, refl, sym, ap, subst, ◌∙◌, append_assoc}
+use Rattle.std.proofs.Common.{◌≡◌, ℕ, ◌==◌, Bool, true, false, ◌||◌, List, [], ◌++◌, Option, Some, None, inl, inr, ◌⊎◌, refl, sym, ap, subst, ◌∙◌, append_assoc}
 use Rattle.bit_io.specs.Bits as bits
 use Rattle.bit_io.specs.Bits.{bits_of}
 use Rattle.bit_io.specs.Codewords as codewords
@@ -9,7 +9,6 @@ use Rattle.cb_types.specs.SizeMbs.{IsWithinLimits}
 use Rattle.element_tables.specs.Syntax.{BeginsWith, IsRefused, Made, Rule, Se, Spells, Stops, Syntax, Takes, U, Ue}
 use Rattle.element_tables.specs.declared.elements.Stop.{Stop}
 use Rattle.element_tables.specs.declared.elements.Stop.TheVariants.{Malformed, OtherProfile}
-use Rattle.param_sets.specs.Pps as picture
 use Rattle.param_sets.specs.Pps.{pic_parameter_set_data}
 use Rattle.param_sets.specs.Sps as sequence
 use Rattle.param_sets.specs.Sps.{seq_parameter_set_data, size_of}

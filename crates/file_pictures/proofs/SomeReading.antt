@@ -1,5 +1,5 @@
 -- It isn't so that a file has no reading.
-use Rattle.std.proofs.Common.{◌≡◌, ◌≢◌, ℕ, ◌<◌, Bool, true, false, not, ◌&&◌, cond, List, [], ◌∷◌, ◌++◌, length, map, Option, Some, None, inl, inr, ◌⊎◌, refl, sym, ap, subst, ◌∙◌, arith}
+use Rattle.std.proofs.Common.{◌≡◌, ◌≢◌, ℕ, Bool, true, false, ◌&&◌, cond, List, [], ◌∷◌, ◌++◌, length, map, Option, Some, None, inl, inr, ◌⊎◌, refl, sym, ap, subst, ◌∙◌, arith}
 use Rattle.std.specs.Prelude.{reverse, slice_range}
 use Rattle.std.specs.List.{AllByRecursion}
 use Rattle.std.specs.Option.{is_some}
@@ -7,7 +7,6 @@ use Rattle.std.proofs.lemmas.Bool.{cases_lt}
 use Rattle.nal_units.specs.Units.{Units}
 use Rattle.nal_units.proofs.Advancing.{text_has_units}
 use Rattle.access_units.specs.AccessUnits.{AccessUnit, access_units, added_to, are_some, begins_another, begins_by, broken_off, grouped, has_slice, unit_alone, with_unit}
-use Rattle.access_units.specs.Acceptors.{AreAll, IsSettled}
 use Rattle.access_units.specs.Contents.{AreTold, Told, places_of, sets_behind}
 use Rattle.access_units.specs.Pictures.{ArePictures}
 use Rattle.file_pictures.specs.Files.{AreAllWhole, AreDecoded, Decoded, Fault, HasPictures, IsAcceptedPicture, IsRead, IsTooLong, fault_of}

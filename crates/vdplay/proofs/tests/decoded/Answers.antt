@@ -19,7 +19,7 @@ loop-init c =
     let size = r.3 in
     let most = r.4 in
     let may : MayFeed r.0 c.args.bytes.now = record { not_ended = r.2; room = omega (arith, size, most, length-append r.0.text c.args.bytes.now) } in
-    (streamed r.0 c.args.bytes.now, c.in_ok-feed.ensures r.0 r.1 may, streamed_length r.0 c.args.bytes.now ∙ ap (λ n. n + length c.args.bytes.now) size)
+    (streamed r.0 c.args.bytes.now, c.in_ok-feed.ensures.fed r.0 r.1 may, streamed_length r.0 c.args.bytes.now ∙ ap (λ n. n + length c.args.bytes.now) size)
 
 pub next-requires : goal.next-requires
 next-requires c = (c.loop.invariant.0, c.loop.invariant.1)

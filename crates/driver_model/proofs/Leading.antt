@@ -54,7 +54,7 @@ happens_one : (s t u : State) (item : Item) → HasSizes s → Happens s item t 
 happens_one s t u (Called entry) sizes p q = p.2 ∙ (ap counted (steps_leave_one s p.0 q.0 entry.caller entry.call entry.reply sizes p.1 q.1) ∙ sym q.2)
 happens_one s t u (Ended mark) sizes p q = p.1 ∙ sym q.1
 
-happens_names : (s t : State) (item : Item) → Happens s item t → names t.objects ≡ names s.objects ++ option_to_list (given_by item)
+pub happens_names : (s t : State) (item : Item) → Happens s item t → names t.objects ≡ names s.objects ++ option_to_list (given_by item)
 happens_names s t (Called entry) h = ap (λ (u : State). names u.objects) h.2 ∙ (step_one s h.0 entry.caller entry.call entry.reply h.1).given
 happens_names s t (Ended mark) h = ap (λ (u : State). names u.objects) h.1 ∙ sym (append-nil (names s.objects))
 

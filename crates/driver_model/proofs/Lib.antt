@@ -47,3 +47,13 @@ pub mod PartItemSteps
 pub mod PartLeads
 pub mod PartHistories
 pub mod PartAlike
+pub mod NoteNumbers
+pub mod NoteLists
+pub mod NoteSteps
+pub mod NoteEntries
+pub mod NoteMarks
+pub mod SizedLooks
+pub mod SizedSteps
+pub mod ScriptFlips
+pub mod FlipOrder
+pub mod StreamFlips

@@ -21,15 +21,15 @@ use Rattle.driver_model.proofs.SoundLooks.{further-Ok}
 abbrev pub Finds : {A : Type 0} → (A → Type 0) → Looked A → Type 0
 Finds {A} P m = (a : A) → m ≡ Ok a → P a
 
-then_finds : {A B : Type 0} (P : B → Type 0) (m : Looked A) (later : A → Looked B) → ((a : A) → m ≡ Ok a → Finds P (later a)) → Finds P (m >>= later)
+pub then_finds : {A B : Type 0} (P : B → Type 0) (m : Looked A) (later : A → Looked B) → ((a : A) → m ≡ Ok a → Finds P (later a)) → Finds P (m >>= later)
 then_finds P (Ok a) later rest b e = rest a refl b e
 then_finds P (Err refusal) later rest b e = absurd (err_not_ok refusal b e)
 
-guard_finds : {B : Type 0} (P : B → Type 0) (m : Looked (Unit {0})) (later : Looked B) → Finds P later → Finds P (m >> later)
+pub guard_finds : {B : Type 0} (P : B → Type 0) (m : Looked (Unit {0})) (later : Looked B) → Finds P later → Finds P (m >> later)
 guard_finds P (Ok nothing) later rest b e = rest b e
 guard_finds P (Err refusal) later rest b e = absurd (err_not_ok refusal b e)
 
-ok_finds : {A : Type 0} (P : A → Type 0) (a : A) → P a → Finds P (Ok a)
+pub ok_finds : {A : Type 0} (P : A → Type 0) (a : A) → P a → Finds P (Ok a)
 ok_finds P a is b e = subst P (ok_is a b e) is
 
 module _ (s : State) where

@@ -1,5 +1,5 @@
 -- What follows from the definitions.
-use Rattle.std.specs.Prelude.{◌≡◌, ◌≢◌, ◌↔◌, ℕ, Bool, true, false, not, List, ◌++◌, map, filter_map, AllPairs, slice_get, Some, Err, ⊤}
+use Rattle.std.specs.Prelude.{◌≡◌, ◌≢◌, ◌↔◌, ℕ, Bool, true, false, not, List, ◌∷◌, ◌++◌, map, filter_map, AllPairs, slice_get, Some, Err, ⊤}
 use Rattle.std.specs.List.{AllByRecursion}
 use Rattle.cb_types.specs.AcceptedInfo.{takes_weights}
 use Rattle.cb_types.specs.SizeMbs.{IsWithinLimits}
@@ -9,21 +9,27 @@ use Rattle.present_queue.specs.Queue.{Names, Queue}
 use Rattle.vd_status.specs.declared.refusal.Refusal.{Refusal}
 use Rattle.vd_status.specs.declared.refusal.Refusal.TheVariants.{Bitstream, Incomplete, OutOfMemory}
 use Rattle.driver_model.specs.Answers.{Reply}
+use Rattle.driver_model.specs.Ends.{IsReplyOfJob}
 use Rattle.driver_model.specs.Histories.{IsLegal, IsStateOf}
+use Rattle.driver_model.specs.Jobs.{reply_of}
 use Rattle.driver_model.specs.Kept.{is_in_queue}
 use Rattle.driver_model.specs.Objects.{Content, VideoObject, OutputObject, DecoderObject, MixerObject}
+use Rattle.driver_model.specs.Notes.{IsOfEntry, is_ended}
 use Rattle.driver_model.specs.Parts.{NamesOneDevice, given_by, is_among, is_creation, names_of, part, part_of_front}
+use Rattle.driver_model.specs.Passes.{begins_job}
 use Rattle.driver_model.specs.Presented.{is_idle_at, queues_of}
 use Rattle.driver_model.specs.SameDevice.{IsAlike}
+use Rattle.driver_model.specs.Sized.{AreSized, HaveWholeMatrices, SetsWholeMatrices}
 use Rattle.driver_model.specs.Sizes.{is_within_limits}
 use Rattle.driver_model.specs.Sound.{AreSound}
-use Rattle.driver_model.specs.States.{State}
+use Rattle.driver_model.specs.States.{State, has_note}
 use Rattle.driver_model.specs.Steps.{Step}
 use Rattle.driver_model.specs.Waits.{Waits}
 use Rattle.driver_model.specs.declared.calls.Call.{Call}
 use Rattle.driver_model.specs.declared.items.Entry.{Entry}
 use Rattle.driver_model.specs.declared.items.Item.{Item}
-use Rattle.driver_model.specs.declared.items.Item.TheVariants.{Called}
+use Rattle.driver_model.specs.declared.items.Item.TheVariants.{Called, Ended}
+use Rattle.driver_model.specs.declared.items.Mark.{Mark}
 use Rattle.driver_model.specs.declared.numbers.TheConstants.{DEVICE, WEIGHTED_BASELINE}
 
 -- The size of an object that has one is within the limits.
@@ -155,3 +161,54 @@ DevicesHaveTheirKind =
     → slice_get history place ≡ Some (Called entry)
     → is_creation device entry.call entry.reply ≡ true
     → kind_of device ≡ DEVICE
+
+-- In the state of a legal history each note is that of an entry there which began a job that hasn't ended.
+abbrev pub NotesAreOfEntries : Type 0
+NotesAreOfEntries = (history : List Item) (s : State) → IsStateOf history s → AllByRecursion (IsOfEntry history s) s.notes
+
+-- Each entry that began a job which hasn't ended has its note.
+abbrev pub RunningJobsAreNoted : Type 0
+RunningJobsAreNoted =
+    (history : List Item) (s : State) (place : ℕ) (entry : Entry)
+    → IsStateOf history s
+    → slice_get history place ≡ Some (Called entry)
+    → begins_job (Called entry) ≡ true
+    → is_ended history entry.caller place ≡ false
+    → has_note s entry.caller place ≡ true
+
+-- No two notes are of one entry, nor have two one number.
+abbrev pub NotesAreApart : Type 0
+NotesAreApart =
+    (history : List Item) (s : State)
+    → IsStateOf history s
+    → AllPairs (λ a b. a ≢ b) (map (λ note. note.place) s.notes) × AllPairs (λ a b. a ≢ b) (map (λ note. note.number) s.notes)
+
+-- Each mark of a legal history ends a job that its caller began before it and that had not ended.
+abbrev pub MarksEndJobs : Type 0
+MarksEndJobs =
+    (front rest : List Item) (mark : Mark)
+    → IsLegal (front ++ Ended mark ∷ rest)
+    → ((reply : Reply) × IsReplyOfJob front mark.place mark.caller reply) × (is_ended front mark.caller mark.place ≡ false)
+
+-- A note keeps what its job's end will answer.
+abbrev pub NotesKeepReplies : Type 0
+NotesKeepReplies =
+    (history : List Item) (s : State)
+    → IsStateOf history s
+    → AllByRecursion (λ note. IsReplyOfJob history note.place note.caller (reply_of note.outcome)) s.notes
+
+-- A job's end has one answer, in what its caller has seen and in whatever begins with that.
+abbrev pub JobsHaveOneReply : Type 0
+JobsHaveOneReply =
+    (seen more : List Item) (place : ℕ) (caller other : List ℕ) (a b : Reply)
+    → IsReplyOfJob seen place caller a
+    → IsReplyOfJob (seen ++ more) place other b
+    → (caller ≡ other) × (a ≡ b)
+
+-- In the state of a legal history the objects have what their sizes and kinds say.
+abbrev pub ObjectsAreSized : Type 0
+ObjectsAreSized = (history : List Item) (s : State) → IsStateOf history s → AreSized s.objects
+
+-- Where each call that sets a matrix gives a whole one, each mixer has a whole one.
+abbrev pub MatricesAreWhole : Type 0
+MatricesAreWhole = (history : List Item) (s : State) → IsStateOf history s → SetsWholeMatrices history → HaveWholeMatrices s.objects

@@ -17,9 +17,14 @@ pub mod Steps
 pub mod Histories
 pub mod Waits
 pub mod Passes
+pub mod Notes
+pub mod Ends
 pub mod Parts
 pub mod SameDevice
 pub mod ShownPictures
 pub mod FlipText
+pub mod ScriptFlips
 pub mod Sound
+pub mod Sized
 pub mod Laws
+pub mod FlipLaws

@@ -1,5 +1,6 @@
 // What follows from the definitions.
-ghost use Rattle.driver_model.specs.Laws.{DevicesHaveTheirKind, FrontsAreLegal, HistoriesHaveSizes, HistoriesLeadToOneState, IdleSurfacesAreNotNamed, LimitsAreOne, LiveQueuesDecide, NamesAreGiven, NamesAreGivenOnce, OneProfileTakesWeights, PartsAreLegal, PartsBeginAlike, PartsHaveTheDevice, QueuesAreSound, RefusalsAreOne, RefusalsLeaveTheState, StepsLeaveOneState, WaitingCallsAreNotAnswered};
+ghost use Rattle.driver_model.specs.FlipLaws.{FlipsAreOne, ScriptsHaveOneText, StreamsSettleTheText, StreamsShowTheScript};
+ghost use Rattle.driver_model.specs.Laws.{DevicesHaveTheirKind, FrontsAreLegal, HistoriesHaveSizes, HistoriesLeadToOneState, IdleSurfacesAreNotNamed, JobsHaveOneReply, LimitsAreOne, LiveQueuesDecide, MarksEndJobs, MatricesAreWhole, NamesAreGiven, NamesAreGivenOnce, NotesAreApart, NotesAreOfEntries, NotesKeepReplies, ObjectsAreSized, OneProfileTakesWeights, PartsAreLegal, PartsBeginAlike, PartsHaveTheDevice, QueuesAreSound, RefusalsAreOne, RefusalsLeaveTheState, RunningJobsAreNoted, StepsLeaveOneState, WaitingCallsAreNotAnswered};
 
 /// The state behind a call is settled by the state before it, the caller, the call and its reply.
 pub fn steps_leave_one_state()
@@ -60,4 +61,42 @@ pub fn parts_are_legal()
     ensures fronts { PartsBeginAlike }
     ensures states { PartsHaveTheDevice }
     ensures devices { DevicesHaveTheirKind }
+{}
+
+/// Where a legal history leads, the notes of running jobs are those of the entries that began a job which hasn't
+/// ended: each such entry has one, and each note is of one. What the job's end answers is the entry's reply, and
+/// the note's target is the object that the call named. No two notes have one number.
+pub fn notes_are_entries()
+    ensures entries { NotesAreOfEntries }
+    ensures noted { RunningJobsAreNoted }
+    ensures apart { NotesAreApart }
+{}
+
+/// Each mark of a legal history ends a job that its caller began before it and that had not ended, and what the end
+/// answers is one reply: that of the entry at the job's beginning, which the job's note keeps.
+pub fn ends_have_begins()
+    ensures marks { MarksEndJobs }
+    ensures notes { NotesKeepReplies }
+    ensures one { JobsHaveOneReply }
+{}
+
+/// Where a legal history leads, each video surface's picture has the surface's size, each output surface has the
+/// bytes of its pixels in one of the two formats, and each decoder has one of the profiles and few references. The
+/// mixers' matrices have twelve numbers, where those of the calls have.
+pub fn objects_are_sized()
+    ensures objects { ObjectsAreSized }
+    ensures matrices { MatricesAreWhole }
+{}
+
+/// The flips of the pictures that a script shows are one list at most, and have one text.
+pub fn flips_are_one()
+    ensures one { FlipsAreOne }
+    ensures text { ScriptsHaveOneText }
+{}
+
+/// The text of flips is settled by each stream's flips in their order, whatever the order in which the streams take
+/// turns. So flips have the text of what a script shows, where each stream's are those of its shown pictures.
+pub fn streams_settle_the_text()
+    ensures settled { StreamsSettleTheText }
+    ensures shown { StreamsShowTheScript }
 {}

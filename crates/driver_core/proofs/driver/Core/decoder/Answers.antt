@@ -1,0 +1,7 @@
+use Rattle.driver_core.proofs.FoundKinds.{decoder_looks}
+use Rattle.driver_core.proofs.driver.Core.decoder.Goals as goal
+
+pub returns : goal.returns
+returns c =
+    let l = decoder_looks c.args.self.now c.args.arg c.args.name c.in_use.result c.in_use.ensures in
+    record { live = l.live; finds = l.finds; refuses = l.refuses }

@@ -1,0 +1,13 @@
+pub mod Kinds
+pub mod Sound
+pub mod Looked
+pub mod Roles
+pub mod Stands
+pub mod Covers
+pub mod Swept
+pub mod Found
+pub mod Written
+pub mod Added
+pub mod Answered
+pub mod Standing
+pub mod Counted

@@ -1,0 +1,63 @@
+// Devices (vdpau_x11.h, VdpDeviceCreateX11; vdpau.h, VdpDeviceDestroy and VdpPreemptionCallback).
+ghost use Rattle.std.specs.Prelude.{◌≡◌, ◌&&◌, count_by};
+ghost use Rattle.driver_core.specs.Answered.{Calls};
+ghost use Rattle.driver_core.specs.Kinds.{is_device};
+
+use crate::answer::CoreAnswer;
+use crate::driver::Core;
+use driver_model::{Answer, Call, DEVICE, MAX_DEVICES};
+use driver_objects::{Content, Device, Object};
+use std::alloc::Global;
+use vd_status::Refusal;
+
+impl Core {
+    /// Makes a device, whose clock stands at 0.
+    pub fn device_create(&mut self, _alloc: Global) -> CoreAnswer<u32>
+        ensures { Calls self.old self.new Call.DeviceCreate Answer.Name result }
+    {
+        if count_devices(self.objects.kept()) == MAX_DEVICES as usize {
+            return CoreAnswer::Now(Err(Refusal::HandlesFull {
+                live: self.objects.live(),
+                given: self.objects.made(),
+            }));
+        }
+        let device = Content::Device(Device {
+            time: 0,
+            is_preempted: false,
+        });
+        CoreAnswer::Now(self.add(DEVICE, None, device))
+    }
+
+    /// The display is taken away from a device: from now on each of its calls is refused, but for the end of
+    /// the device and those of its jobs.
+    pub fn preempt(&mut self, device: u32) -> CoreAnswer<()>
+        ensures { Calls self.old self.new (Call.Preempt device) (λ _. Answer.Done) result }
+    {
+        match self.device(0, device) {
+            Ok((index, device)) => {
+                self.write(
+                    index,
+                    Content::Device(Device {
+                        is_preempted: true,
+                        ..device
+                    }),
+                );
+                CoreAnswer::Now(Ok(()))
+            }
+            Err(refusal) => CoreAnswer::Now(Err(refusal)),
+        }
+    }
+}
+
+// How many of them are live devices.
+fn count_devices(kept: &[Object]) -> usize
+    ensures { result ≡ count_by (λ object. object.is_live && is_device object.content) kept.now }
+{
+    let mut devices = 0;
+    for object in kept {
+        if object.is_live && matches!(object.content, Content::Device(_)) {
+            devices += 1;
+        }
+    }
+    devices
+}

@@ -1,0 +1,5 @@
+pub mod Stored
+pub mod Listed
+pub mod Kept
+pub mod Sound
+pub mod Faults

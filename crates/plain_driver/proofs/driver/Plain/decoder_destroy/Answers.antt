@@ -1,0 +1,6 @@
+use Rattle.driver_model.specs.Objects.{as_decoder}
+use Rattle.plain_driver.proofs.Goes.{at_below}
+use Rattle.plain_driver.proofs.driver.Plain.decoder_destroy.Goals as goal
+
+pub destroy-requires : goal.destroy-requires
+destroy-requires c = at_below as_decoder c.args.decoder c.args.self.now c.in_ok-place.place c.in_ok-place.ensures

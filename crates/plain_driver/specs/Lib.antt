@@ -1,0 +1,10 @@
+pub mod Numbered
+pub mod States
+pub mod Looks
+pub mod Added
+pub mod Presenting
+pub mod Ticking
+pub mod Wishing
+pub mod Mixing
+pub mod Keeping
+pub mod Rendering

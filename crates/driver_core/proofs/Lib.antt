@@ -21,6 +21,7 @@ pub mod Displaying
 pub mod Numbers
 pub mod LiveQueues
 pub mod Filters
+pub mod Wanted
 pub mod Sweeping
 pub mod NamedBoth
 pub mod Destroying
@@ -42,3 +43,6 @@ pub mod GoneStands
 pub mod Out
 pub mod Bits
 pub mod SamePictures
+pub mod Ending
+pub mod EndedSound
+pub mod EndedStands

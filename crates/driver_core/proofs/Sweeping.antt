@@ -1,11 +1,9 @@
 -- An object is destroyed, and then each destroyed object that no queue names any more is let go.
-use Rattle.std.proofs.Common.{◌≡◌, ◌≢◌, ◌⊎◌, inl, inr, ℕ, ◌||◌, Bool, true, false, true≢false, List, filter, set, slice_get, Option, Some, None, refl, sym, ap, ◌∙◌, subst, arith}
+use Rattle.std.proofs.Common.{◌≡◌, ◌≢◌, ◌⊎◌, inl, inr, ℕ, ◌||◌, Bool, true, false, true≢false, List, filter, set, slice_get, Some, refl, sym, ap, ◌∙◌, subst, arith}
 use Rattle.std.specs.List.{list_any}
-use Rattle.std.specs.Option.{option_map_or}
-use Rattle.std.proofs.lemmas.Bool.Decides.{nat_tests}
 use Rattle.handle_table.specs.Name.{kind_of}
 use Rattle.present_queue.specs.Queue.{Names, Queue, empty_queue}
-use Rattle.present_queue.specs.Queues.{IsWithinLimits, Surface, has_holder, queue_at}
+use Rattle.present_queue.specs.Queues.{IsWithinLimits, Surface, queue_at}
 use Rattle.driver_model.specs.Kept.{is_in_queue}
 use Rattle.driver_model.specs.Objects as model
 use Rattle.driver_model.specs.States.{State, changed_at}
@@ -17,7 +15,7 @@ use Rattle.driver_core.specs.Covers.{Covers, IsAllNeeded, IsOf}
 use Rattle.driver_core.specs.Kinds.{holder_of, is_device, is_device_at, kind_number, number_of}
 use Rattle.driver_core.specs.Sound.{IsSound, has_number, is_surface}
 use Rattle.driver_core.specs.Stands.{IsNeeded, Stands}
-use Rattle.driver_core.specs.Swept.{is_held, is_wanted}
+use Rattle.driver_core.specs.Swept.{is_wanted}
 use Rattle.driver_core.specs.declared.driver.Core.{Core}
 use Rattle.driver_core.proofs.AddSound.{any_at}
 use Rattle.driver_core.proofs.ContentStands.{get_changed_other, get_changed_same}
@@ -26,8 +24,8 @@ use Rattle.driver_core.proofs.Filters.{filter_get, get_filter}
 use Rattle.driver_core.proofs.Handles.{some_passes}
 use Rattle.driver_core.proofs.Lists.{element_is, get_set, get_set_other, get_set_same}
 use Rattle.driver_core.proofs.Named.{one_kept}
-use Rattle.driver_core.proofs.NamesOfQueues.{kept_named, named_kept}
 use Rattle.driver_core.proofs.Presenting.{holder_is, is_holder}
+use Rattle.driver_core.proofs.Wanted.{IsHeld, held_wanted, wanted_held}
 
 either : (m n : ℕ) → (m ≡ n) ⊎ (m ≢ n)
 either m n = grind arith
@@ -73,37 +71,12 @@ module _ (core : Core) (index : ℕ) (object : Object) (there : slice_get (kept_
   pub was : (i : ℕ) (o : Object) → slice_get swept i ≡ Some o → Was o
   was i o at = let p = get_filter (is_wanted queues) without i o at in was_at p.index o p.there
 
-  -- what has a holder under which a queue names it is wanted
-  pub held_wanted : (o : Object) (holder number : ℕ) (surface : Surface) → holder_of o.content ≡ Some holder → Names (queue_at queues number) surface → surface.holder ≡ holder → is_wanted queues o ≡ true
-  held_wanted o holder number surface has named same =
-      let held : is_held queues holder ≡ true = named_kept (has_holder holder) queues (number, (surface, named, grind (arith, nat_tests, same))) in
-      let wanted : option_map_or (is_held queues) (holder_of o.content) false ≡ true = ap (λ h. option_map_or (is_held queues) h false) has ∙ held in
-      grind (arith, wanted)
-
-  -- a queue names what is wanted and isn't live, under its holder
-  pub record IsHeld (o : Object) : Type 0 where
-    pub holder : ℕ
-    pub has : holder_of o.content ≡ Some holder
-    pub number : ℕ
-    pub surface : Surface
-    pub named : Names (queue_at queues number) surface
-    pub at_holder : surface.holder ≡ holder
-
-  wanted_held : (o : Object) → o.is_live ≡ false → is_wanted queues o ≡ true → IsHeld o
-  wanted_held o dead wanted = by_holder (holder_of o.content) refl (sym (ap (λ b. b || option_map_or (is_held queues) (holder_of o.content) false) dead) ∙ wanted) where
-    by_holder : (h : Option ℕ) → holder_of o.content ≡ h → option_map_or (is_held queues) h false ≡ true → IsHeld o
-    by_holder None has held = absurd (true≢false (sym held))
-    by_holder (Some holder) has held =
-        let n = kept_named (has_holder holder) queues held in
-        let test = n.1.2 in
-        record { holder = holder; has = has; number = n.0; surface = n.1.0; named = n.1.1; at_holder = grind (arith, nat_tests, test) }
-
   -- the surface that it is named as
-  pub held_as : (i : ℕ) (o : Object) → slice_get swept i ≡ Some o → o.is_live ≡ false → (h : IsHeld o) × (h.surface.object ≡ o.place)
+  pub held_as : (i : ℕ) (o : Object) → slice_get swept i ≡ Some o → o.is_live ≡ false → (h : IsHeld queues o) × (h.surface.object ≡ o.place)
   held_as i o at dead =
       let p = get_filter (is_wanted queues) without i o at in
       let w = was_at p.index o p.there in
-      let h = wanted_held o dead p.passes in
+      let h = wanted_held queues o dead p.passes in
       (h, (is_holder core w.at w.before h.holder w.stood (ap holder_of (sym w.content) ∙ h.has) h.number h.surface (fewer h.number h.surface h.named)).0 h.at_holder ∙ sym w.place)
 
   -- what a queue names stays
@@ -115,10 +88,10 @@ module _ (core : Core) (index : ℕ) (object : Object) (there : slice_get (kept_
         | inl e ↦
             let same = one_kept (kept_of core.objects) index object s.1 there (subst (λ i. slice_get (kept_of core.objects) i ≡ Some s.1) e s.2) in
             let has : holder_of object.content ≡ Some surface.holder = ap (λ (x : Object). holder_of x.content) same ∙ is.1 in
-            let f = filter_get (is_wanted queues) without index (destroyed object) (get_set_same (kept_of core.objects) index object (destroyed object) there) (held_wanted (destroyed object) surface.holder number surface has named refl) in
+            let f = filter_get (is_wanted queues) without index (destroyed object) (get_set_same (kept_of core.objects) index object (destroyed object) there) (held_wanted queues (destroyed object) surface.holder number surface has named refl) in
             any_at (is_surface surface) swept f.0 (destroyed object) f.1 (subst (λ (x : Object). is_surface surface (destroyed x) ≡ true) (sym same) s.3)
         | inr apart ↦
-            let f = filter_get (is_wanted queues) without s.0 s.1 (get_set_other (kept_of core.objects) index s.0 (destroyed object) s.1 apart s.2) (held_wanted s.1 surface.holder number surface is.1 named refl) in
+            let f = filter_get (is_wanted queues) without s.0 s.1 (get_set_other (kept_of core.objects) index s.0 (destroyed object) s.1 apart s.2) (held_wanted queues s.1 surface.holder number surface is.1 named refl) in
             any_at (is_surface surface) swept f.0 s.1 f.1 s.3
       ]
 
@@ -196,7 +169,7 @@ module _ (core : Core) (index : ℕ) (object : Object) (there : slice_get (kept_
           let is = holder_is f.1 s.1 s.3 in
           let here = place_is_one core.objects.names (kept_of core.objects) (made_of core.objects) core.objects.sound i s.0 o s.1 at s.2 (sym (is.0 ∙ f.3)) in
           let one = one_kept (kept_of core.objects) i s.1 o (subst (λ k. slice_get (kept_of core.objects) k ≡ Some s.1) here s.2) at in
-          held_wanted x f.1.holder f.0 f.1 (ap holder_of same ∙ (ap (λ (y : Object). holder_of y.content) (sym one) ∙ is.1)) f.2 refl
+          held_wanted queues x f.1.holder f.0 f.1 (ap holder_of same ∙ (ap (λ (y : Object). holder_of y.content) (sym one) ∙ is.1)) f.2 refl
 
       module _ (dies : (one : model.Object) → (change one).is_live ≡ false)
           (changed : is_wanted queues (destroyed object) ≡ true → (one : model.Object) → slice_get d.objects object.place ≡ Some one → IsOf core.queues d one object → IsOf queues new (change one) (destroyed object))

@@ -5,6 +5,7 @@ pub mod Roles
 pub mod Stands
 pub mod Covers
 pub mod Swept
+pub mod DeviceEnds
 pub mod Found
 pub mod Written
 pub mod Added

@@ -4,7 +4,9 @@ ghost use Rattle.driver_core.specs.Answered.{Calls};
 ghost use Rattle.driver_core.specs.Kinds.{is_device};
 
 use crate::answer::CoreAnswer;
+use crate::device_ends::destroy_all;
 use crate::driver::Core;
+use crate::sweeps::sweep;
 use driver_model::{Answer, Call, DEVICE, MAX_DEVICES};
 use driver_objects::{Content, Device, Object};
 use std::alloc::Global;
@@ -26,6 +28,21 @@ impl Core {
             is_preempted: false,
         });
         CoreAnswer::Now(self.add(DEVICE, None, device))
+    }
+
+    /// Destroys a device, and with it whatever was created on it: its surfaces, decoders, mixers and queues
+    /// (VdpDeviceDestroy). This is done on a preempted device too, and refused only where the handle names no
+    /// live device.
+    pub fn device_destroy(&mut self, device: u32) -> CoreAnswer<()>
+        ensures { Calls self.old self.new (Call.DeviceDestroy device) (λ _. Answer.Done) result }
+    {
+        let Some(index) = self.objects.find(DEVICE, device) else {
+            return CoreAnswer::Now(Err(Refusal::InvalidHandle { arg: 0 }));
+        };
+        let place = self.object(index).place;
+        destroy_all(&mut self.objects, &mut self.queues, place);
+        sweep(&mut self.objects, &self.queues);
+        CoreAnswer::Now(Ok(()))
     }
 
     /// The display is taken away from a device: from now on each of its calls is refused, but for the end of

@@ -8,6 +8,7 @@
 mod answer;
 mod contents;
 mod decoders;
+mod device_ends;
 mod devices;
 mod driver;
 mod kept;

@@ -57,3 +57,6 @@ pub mod SizedSteps
 pub mod ScriptFlips
 pub mod FlipOrder
 pub mod StreamFlips
+pub mod OwedPlaces
+pub mod OwedSteps
+pub mod OwedRuns

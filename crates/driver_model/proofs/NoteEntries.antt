@@ -241,7 +241,7 @@ module _ (past : List Item) (s t : State) (mark : Mark) (kept : AreKept past s) 
 
 -- ---- a history
 
-happens_kept : (past : List Item) (s t : State) (item : Item) → AreKept past s → Happens s item t → AreKept (past ++ item ∷ []) t
+pub happens_kept : (past : List Item) (s t : State) (item : Item) → AreKept past s → Happens s item t → AreKept (past ++ item ∷ []) t
 happens_kept past s t (Called entry) kept h =
     kept_called past s t entry kept (still_by s t _ (happens_names s t (Called entry) h)) h.0 h.2 (step_notes s h.0 entry.caller entry.reply entry.call h.1)
 happens_kept past s t (Ended mark) kept h = kept_ended past s t mark kept (still_by s t _ (happens_names s t (Ended mark) h)) h.0 h.1
@@ -252,7 +252,7 @@ leads_kept past s t [] kept leads = subst (λ l. AreKept l t) (sym (append-nil p
 leads_kept past s t (item ∷ later) kept leads =
     subst (λ l. AreKept l t) (append_assoc past (item ∷ []) later) (leads_kept (past ++ item ∷ []) leads.0 t later (happens_kept past s leads.0 item kept leads.1) leads.2)
 
-nothing_kept : AreKept [] empty_state
+pub nothing_kept : AreKept [] empty_state
 nothing_kept = record {
   items = refl;
   entries = tt;

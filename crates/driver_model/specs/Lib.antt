@@ -26,5 +26,6 @@ pub mod FlipText
 pub mod ScriptFlips
 pub mod Sound
 pub mod Sized
+pub mod Owed
 pub mod Laws
 pub mod FlipLaws

@@ -1,5 +1,6 @@
 // What follows from the definitions.
 ghost use Rattle.driver_model.specs.FlipLaws.{FlipsAreOne, ScriptsHaveOneText, StreamsSettleTheText, StreamsShowTheScript};
+ghost use Rattle.driver_model.specs.Owed.{CountsKeepTargets, EndsKeepTargets, NotesHaveTargets, RunsKeepTargets, StepsKeepTargets};
 ghost use Rattle.driver_model.specs.Laws.{DevicesHaveTheirKind, FrontsAreLegal, HistoriesHaveSizes, HistoriesLeadToOneState, IdleSurfacesAreNotNamed, JobsHaveOneReply, LimitsAreOne, LiveQueuesDecide, MarksEndJobs, MatricesAreWhole, NamesAreGiven, NamesAreGivenOnce, NotesAreApart, NotesAreOfEntries, NotesKeepReplies, ObjectsAreSized, OneProfileTakesWeights, PartsAreLegal, PartsBeginAlike, PartsHaveTheDevice, QueuesAreSound, RefusalsAreOne, RefusalsLeaveTheState, RunningJobsAreNoted, StepsLeaveOneState, WaitingCallsAreNotAnswered};
 
 /// The state behind a call is settled by the state before it, the caller, the call and its reply.
@@ -86,6 +87,17 @@ pub fn ends_have_begins()
 pub fn objects_are_sized()
     ensures objects { ObjectsAreSized }
     ensures matrices { MatricesAreWhole }
+{}
+
+/// From the beginning of a job to its end, its surface stays as the beginning left it: no call changes what the
+/// surface has, nor does the end of another job. The job's note stays, too. Its target is a video surface where a
+/// render began the job, and an output surface where a mix did.
+pub fn jobs_keep_what_they_owe()
+    ensures steps { StepsKeepTargets }
+    ensures counts { CountsKeepTargets }
+    ensures ends { EndsKeepTargets }
+    ensures runs { RunsKeepTargets }
+    ensures targets { NotesHaveTargets }
 {}
 
 /// The flips of the pictures that a script shows are one list at most, and have one text.

@@ -18,3 +18,9 @@ pub mod OneReading
 pub mod OneCovered
 pub mod OnePicture
 pub mod OneOutcome
+pub mod BareEntries
+pub mod BareLists
+pub mod BareSlices
+pub mod BareOutcomes
+pub mod RenamedInfos
+pub mod RenamedAccepted

@@ -6,3 +6,4 @@ pub mod Parsed
 pub mod Constructed
 pub mod Memory
 pub mod Prepared
+pub mod Renamed

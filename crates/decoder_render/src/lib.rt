@@ -10,6 +10,9 @@ mod parsing;
 mod prepared;
 mod submission;
 
-pub use laws::{outcomes_are_unique, submissions_have_one_reading};
+pub use laws::{
+    outcomes_are_unique, outcomes_do_not_ask_names, renamed_infos_are_accepted,
+    submissions_have_one_reading,
+};
 pub use outcome::Outcome;
 pub use prepared::Prepared;

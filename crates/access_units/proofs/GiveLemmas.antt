@@ -19,6 +19,7 @@ use Rattle.access_units.specs.declared.hand.InHand.{InHand}
 use Rattle.access_units.specs.declared.pictures.Pictures.{Pictures}
 use Rattle.param_sets.specs.Sps.{size_of}
 use Rattle.access_units.proofs.LookLemmas.{looked_on}
+use Rattle.access_units.proofs.SequenceLemmas.{one_size}
 use Rattle.access_units.proofs.UnitFound.{if_some, keeps_none, keeps_some}
 
 no_none : (h : Option InHand) (held : InHand) → h ≡ Some held → h ≡ None → ⊥
@@ -195,12 +196,18 @@ pub decodable : (a : Acceptor) (past : Past) (held : InHand) (offer : Offer) (un
     → unsettled ≡ shown offset offer → unsettled.depth ≤ 16 → IsDecodable past unsettled
 decodable a past held offer unsettled offset s was offered sound shows depth =
     let kept = keeps_some a.hand held past.text s.hand was s.reads.in_hand in
+    let offer_is : IsOfferOf past kept.0 offer = offered past kept.0 s kept.2 in
     let all : IsDecodable past (shown offset offer) = record {
       info = sound.info;
+      baseline = sound.baseline;
       size = sound.readable.sps.size;
       depth = subst (λ (u : Unsettled). u.depth ≤ 16) shows depth;
       frame = sound.frame;
-      named = (offered past kept.0 s kept.2).own;
+      named = offer_is.own;
+      sequence = offer_is.sequence;
+      one_size = λ idr. one_size s.front past.given offer.named offer.begun s.pictures offer_is.begins idr;
+      none_at_idr = sound.none_at_idr;
+      apart = sound.apart;
     } in
     subst (λ (u : Unsettled). IsDecodable past u) (sym shows) all
 

@@ -9,6 +9,7 @@ use Rattle.access_units.specs.Acceptors.{Past}
 use Rattle.access_units.specs.Giving.{IsOfferOf, bytes_at}
 use Rattle.access_units.specs.Hands.{Holds}
 use Rattle.access_units.specs.Pictures.{AreOwn, BeginsBehind, IsPicture, Picture, submission_of}
+use Rattle.access_units.specs.Sequences.{AreOfSequence}
 use Rattle.access_units.specs.Standing.{AreWithin, StandsFor}
 use Rattle.access_units.specs.declared.acceptor.Acceptor.{Acceptor}
 use Rattle.access_units.specs.declared.content.Named.{Named}
@@ -49,10 +50,10 @@ too_long held text before au picture h long is =
 
 -- It is a picture.
 pub offer_of : (held : InHand) (past : Past) (au : AccessUnit) (named : Named) (begun : Begun) (slices : ℕ) (submission : List ℕ) → Holds held past.text au
-    → held.refused ≡ None → held.first ≡ Some named → BeginsBehind past.given named begun → AreOwn past.given begun.info.references → slices ≡ vec_len held.slices
+    → held.refused ≡ None → held.first ≡ Some named → BeginsBehind past.given named begun → AreOwn past.given begun.info.references → AreOfSequence past.given begun.info.references → slices ≡ vec_len held.slices
     → submission ≡ submission_of (bytes_at past.text held.slices.items) → length submission ≤ 67108864
     → IsOfferOf past au (record { named = named; begun = begun; slices = slices; submission = submission })
-offer_of held past au named begun slices submission h allowed was begins own many is fits =
+offer_of held past au named begun slices submission h allowed was begins own sequence many is fits =
     let all : submission ≡ submission_of au.slices = is ∙ ap submission_of h.slices in
     let count : length (bytes_at past.text held.slices.items) ≡ length held.slices.items = length-map held.slices.items (λ (place : ℕ × ℕ). slice_range past.text place.0 place.1) in
     let same : length (bytes_at past.text held.slices.items) ≡ length au.slices = ap length h.slices in
@@ -61,6 +62,7 @@ offer_of held past au named begun slices submission h allowed was begins own man
       first = sym h.first ∙ was;
       begins = begins;
       own = own;
+      sequence = sequence;
       slices = omega (arith, many, held.slices.ok.0, count, same);
       submission = all;
       fits = subst (λ (bytes : List ℕ). length bytes ≤ 67108864) all fits;

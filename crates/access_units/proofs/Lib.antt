@@ -10,6 +10,7 @@ pub mod PictureLemmas
 pub mod PictureOrder
 pub mod PictureSets
 pub mod PictureSteps
+pub mod SequenceLemmas
 pub mod StandLemmas
 pub mod LookLemmas
 pub mod FeedLemmas

@@ -167,24 +167,24 @@ own_behind pictures before named begun picture slices stands readable b same is 
 no_cons : (y : marks.Picture) (ys : List marks.Picture) → [] ≡ y ∷ ys → ⊥
 no_cons y ys e = cc
 
-no_middle : (ys zs : List marks.Picture) (y : marks.Picture) → [] ≡ ys ++ y ∷ zs → ⊥
+pub no_middle : (ys zs : List marks.Picture) (y : marks.Picture) → [] ≡ ys ++ y ∷ zs → ⊥
 no_middle [] zs y e = no_cons y zs e
 no_middle (b ∷ ys) zs y e = no_cons b (ys ++ y ∷ zs) e
 
-some_number : (a b : ℕ) → Some a ≡ Some b → a ≡ b
+pub some_number : (a b : ℕ) → Some a ≡ Some b → a ≡ b
 some_number a b e = cc
 
-abbrev has_frame : ℕ → Picture → Bool
+abbrev pub has_frame : ℕ → Picture → Bool
 has_frame number picture = picture.begun.frame == number
 
-or_first : (a b : Bool) → a ≡ true → (a || b) ≡ true
+pub or_first : (a b : Bool) → a ≡ true → (a || b) ≡ true
 or_first a b e = rw e refl
 
-or_second : (a b : Bool) → b ≡ true → (a || b) ≡ true
+pub or_second : (a b : Bool) → b ≡ true → (a || b) ≡ true
 or_second true b e = refl
 or_second false b e = e
 
-number_named : (before : List Picture) (surface : ℕ) → HaveOwnNumbers before → marks.IsNamed (reverse (map marked_of before)) surface → has_number surface before ≡ true
+pub number_named : (before : List Picture) (surface : ℕ) → HaveOwnNumbers before → marks.IsNamed (reverse (map marked_of before)) surface → has_number surface before ≡ true
 unfolding HaveOwnNumbers
 number_named [] surface numbers h = absurd (no_middle h.earlier h.later h.picture h.are_all)
 number_named (last ∷ before) surface numbers h =

@@ -1,13 +1,16 @@
 -- What was fed to an acceptor and what it gave, and what it answers next.
-use Rattle.std.specs.Prelude.{◌≡◌, ℕ, ◌≤◌, ◌⊎◌, Bool, true, false, List, [], ◌∷◌, ◌++◌, length, drop, take, Option, Some, None, unwrap_or, ◌≢◌}
-use Rattle.cb_types.specs.AcceptedInfo.{IsAcceptedBySome}
+use Rattle.std.specs.Prelude.{◌≡◌, ℕ, ◌≤◌, ◌⊎◌, Bool, true, false, List, [], ◌∷◌, ◌++◌, length, drop, take, All, Option, Some, None, unwrap_or, ◌≢◌}
+use Rattle.cb_types.specs.AcceptedInfo.{IsAccepted, IsAcceptedBySome}
 use Rattle.cb_types.specs.SizeMbs.{IsWithinLimits}
+use Rattle.cb_types.specs.Slices.{is_idr}
+use Rattle.marking.specs.History.{AreApartFrom}
 use Rattle.nal_units.specs.Settled.{Settles}
 use Rattle.nal_units.specs.Units.{Units}
 use Rattle.access_units.specs.AccessUnits.{AccessUnit, access_units, grouped}
 use Rattle.access_units.specs.Contents.{AreTold, Told, places_of}
 use Rattle.access_units.specs.Depth.{depth_of}
 use Rattle.access_units.specs.Pictures.{AreOwn, ArePictures, IsPicture, IsRefused, Picture, size_in, submission_of}
+use Rattle.access_units.specs.Sequences.{AreOfSequence, HasNoneAtIdr, sequence_of}
 use Rattle.access_units.specs.declared.acceptor.Next.{Next}
 use Rattle.access_units.specs.declared.acceptor.Next.TheVariants as next
 use Rattle.access_units.specs.declared.acceptor.Unsettled.{Unsettled}
@@ -149,14 +152,21 @@ IsAnswer past (next.Refused offset large) = (IsFailed past offset × (large ≡ 
 
 -- ---- what a caller can decode a picture with
 
--- What a caller can decode a picture with: its info is one that a decoder takes, its size is within the limits, and so are its depth
--- and its own number; and its references are pictures given before.
+-- What a caller can decode a picture with: its info is one that a decoder takes, and so does one of Constrained Baseline with 16
+-- references; its size is within the limits, and so are its depth and its own number. Its references are pictures given before, of
+-- its own coded video sequence, whose pictures all have its size; an IDR picture, which begins another one, has none. No reference
+-- has its own number.
 pub record IsDecodable (past : Past) (unsettled : Unsettled) : Type 0 where
   pub info : IsAcceptedBySome unsettled.begun.info
+  pub baseline : IsAccepted 0 16 unsettled.begun.info
   pub size : IsWithinLimits unsettled.size
   pub depth : unsettled.depth ≤ 16
   pub frame : unsettled.begun.frame ≤ 16
   pub named : AreOwn past.given unsettled.begun.info.references
+  pub sequence : AreOfSequence past.given unsettled.begun.info.references
+  pub one_size : is_idr unsettled.begun.header ≡ false → All (λ (picture : Picture). size_in picture ≡ unsettled.size) (sequence_of past.given)
+  pub none_at_idr : HasNoneAtIdr unsettled.begun
+  pub apart : AreApartFrom unsettled.begun.frame unsettled.begun.info.references
 
 abbrev pub IsDecodableIn : Past → Next → Type 0
 IsDecodableIn past (next.Picture unsettled) = IsDecodable past unsettled

@@ -3,6 +3,7 @@ pub mod Contents
 pub mod AccessUnits
 pub mod Depth
 pub mod Pictures
+pub mod Sequences
 pub mod Acceptors
 pub mod Known
 pub mod Readable

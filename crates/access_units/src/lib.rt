@@ -6,6 +6,7 @@ mod content;
 mod depth;
 mod giving;
 mod hand;
+mod laws;
 mod looking;
 mod pictures;
 mod same_picture;
@@ -13,3 +14,4 @@ mod sets;
 mod taking;
 
 pub use acceptor::{Acceptor, Next, Unsettled};
+pub use laws::sequences_have_one_set;

@@ -2,9 +2,10 @@
 ghost use Rattle.std.specs.Prelude.{◌≡◌, ◌≤◌, ◌<◌, ◌↔◌, ℕ, List, [], ◌∷◌, None, IfSome, IsTrue, false, map, reverse};
 ghost use Rattle.access_units.specs.Pictures.{AreOwn, BeginsBehind, Picture, marked_of, with_count};
 ghost use Rattle.access_units.specs.Readable.{IsReadable};
+ghost use Rattle.access_units.specs.Sequences.{AreOfSequence, HasNoneAtIdr};
 ghost use Rattle.access_units.specs.Stands.{HasItsSet, IsLater, StandsBehind};
-ghost use Rattle.cb_types.specs.AcceptedInfo.{IsAcceptedBySome};
-ghost use Rattle.marking.specs.History.{AreNamed};
+ghost use Rattle.cb_types.specs.AcceptedInfo.{IsAccepted, IsAcceptedBySome};
+ghost use Rattle.marking.specs.History.{AreApartFrom, AreNamed};
 ghost use Rattle.output_order.specs.OutputOrder.{History, has_settled};
 ghost use Rattle.output_order.specs.Waiting.{StandsFor};
 
@@ -47,10 +48,14 @@ impl Pictures {
         ensures some { IfSome result (λ begun. (before : List Picture) → StandsBehind self.now before → BeginsBehind before named.now begun) }
         ensures none { result ≡ None → (before : List Picture) (begun : Begun) → StandsBehind self.now before → ¬ BeginsBehind before named.now begun }
         ensures info { IfSome result (λ begun. IsAcceptedBySome begun.info) }
+        ensures baseline { IfSome result (λ begun. IsAccepted 0 16 begun.info) }
         ensures header { IfSome result (λ begun. begun.header ≡ named.now.header) }
         ensures frame { IfSome result (λ begun. begun.frame ≤ 16) }
         ensures references { IfSome result (λ begun. (before : List Picture) → StandsBehind self.now before → AreNamed (reverse (map marked_of before)) begun.info.references) }
         ensures own { IfSome result (λ begun. (before : List Picture) → StandsBehind self.now before → AreOwn before begun.info.references) }
+        ensures sequence { IfSome result (λ begun. (before : List Picture) → StandsBehind self.now before → AreOfSequence before begun.info.references) }
+        ensures none_at_idr { IfSome result HasNoneAtIdr }
+        ensures apart { IfSome result (λ begun. AreApartFrom begun.frame begun.info.references) }
     {
         if self.count >= MAX_PICTURES || !self.has_its_set(named) {
             return None;

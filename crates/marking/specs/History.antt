@@ -100,6 +100,10 @@ pub record IsNamed (pictures : List Picture) (surface : ℕ) : Type 0 where
 abbrev pub AreNamed : List Picture → List Reference → Type 0
 AreNamed pictures frames = All (λ frame. is_unused frame ≡ false → is_absent frame ≡ false → IsNamed pictures frame.surface) frames
 
+-- None of these entries has this number as its surface.
+abbrev pub AreApartFrom : ℕ → List Reference → Type 0
+AreApartFrom number entries = All (λ entry. entry.surface ≢ number) entries
+
 -- a surface that named a picture before one more picture, and still does
 pub record StaysNamed (pictures : List Picture) (picture : Picture) (surface : ℕ) : Type 0 where
   pub before : IsNamed pictures surface

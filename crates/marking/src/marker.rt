@@ -77,7 +77,7 @@ fn references_of(header: &Header, frames: &Frames) -> [Reference; MAX_FRAMES]
 
 impl Marker {
     ghost use Rattle.marking.specs.Begun.{begun_of, frames_before, is_gap_fault, marker_after, max_frame_num, settled_of, settled_with};
-    ghost use Rattle.marking.specs.History.{AreNamed, HasRanges, MayBegin, Picture, StandsFor, own_number};
+    ghost use Rattle.marking.specs.History.{AreApartFrom, AreNamed, HasRanges, MayBegin, Picture, StandsFor, own_number};
 
     /// No picture was finished.
     pub fn new() -> Marker
@@ -102,6 +102,7 @@ impl Marker {
         ensures value { result ≡ begun_of self.now sps.now pps.now header.now }
         ensures info { IfOk result (λ begun. IsAccepted 0 sps.now.max_num_ref_frames begun.info) }
         ensures frame { IfOk result (λ begun. begun.frame ≤ 16) }
+        ensures apart { IfOk result (λ begun. AreApartFrom begun.frame begun.info.references) }
         ensures own { (pictures : List Picture) → StandsFor self.now pictures → IfOk result (λ begun. own_number pictures (record { sps = sps.now; header = header.now }) ≡ Some begun.frame) }
         ensures references { (pictures : List Picture) → StandsFor self.now pictures → MayBegin pictures sps.now pps.now header.now → IfOk result (λ begun. AreNamed pictures begun.info.references) }
     {

@@ -26,6 +26,7 @@ returns-clause-some c = λ past au s h.
     c.in-Some.is
     (c.in-Some-begin.ensures.some past.given s.behind)
     (c.in-Some-begin.ensures.own past.given s.behind)
+    (c.in-Some-begin.ensures.sequence past.given s.behind)
     many
     (some_at c.in_ok-submission.field-0 c.in-Some-2.submission
     (λ bytes. (text : List ℕ) → c.args.self.now.bytes.items ≡ drop c.args.self.now.from text → bytes ≡ submission_of (bytes_at text hand.slices.items))

@@ -8,6 +8,7 @@ use Rattle.marking.specs.declared.begun.MarkFault.{MarkFault}
 use Rattle.access_units.specs.Pictures.{marked_of}
 use Rattle.access_units.proofs.PictureLemmas.{all_own, begun_again, begun_header, has_set, may_begin, set_behind}
 use Rattle.access_units.proofs.PictureOrder.{in_time, late_again, may_push}
+use Rattle.access_units.proofs.SequenceLemmas.{all_of_sequence, none_at_idr, with_most}
 use Rattle.access_units.proofs.pictures.Pictures.begin.Goals as goal
 use Rattle.access_units.proofs.pictures.Pictures.begin.Goals.{then-self-ge-MAX_PICTURES-via-then-self-ge-MAX_PICTURES, then-self-ge-MAX_PICTURES-via-else-self-ge-MAX_PICTURES+then-not-has_its_set}
 
@@ -64,6 +65,19 @@ pub returns-in-Ok-push-clause-references : goal.returns-in-Ok-push-clause-refere
 returns-in-Ok-push-clause-references c = λ before stands.
     let few : length before < 7000000 = omega (arith, stands.count, c.if-self-ge-MAX_PICTURES.false) in
     c.in-Ok.ensures.references (reverse (map marked_of before)) stands.marker (may_begin c.args.self.now before c.args.named.now stands c.requires.readable (c.if-not-has_its_set.ensures.0 refl) few)
+
+pub returns-in-Ok-push-clause-baseline : goal.returns-in-Ok-push-clause-baseline
+returns-in-Ok-push-clause-baseline c = with_most 0 c.args.named.now.sps.max_num_ref_frames c.in-Ok.begun.info c.requires.readable.sps.max_num_ref_frames c.in-Ok.ensures.info
+
+pub returns-in-Ok-push-clause-none_at_idr : goal.returns-in-Ok-push-clause-none_at_idr
+returns-in-Ok-push-clause-none_at_idr c = none_at_idr c.args.self.now.marker c.args.named.now.sps c.args.named.now.pps c.args.named.now.header c.in-Ok.begun (sym c.in-Ok.ensures.value)
+
+pub returns-in-Ok-push-clause-sequence : goal.returns-in-Ok-push-clause-sequence
+returns-in-Ok-push-clause-sequence c = λ before stands.
+    let few : length before < 7000000 = omega (arith, stands.count, c.if-self-ge-MAX_PICTURES.false) in
+    let named : AreNamed (reverse (map marked_of before)) c.in-Ok.begun.info.references =
+    c.in-Ok.ensures.references (reverse (map marked_of before)) stands.marker (may_begin c.args.self.now before c.args.named.now stands c.requires.readable (c.if-not-has_its_set.ensures.0 refl) few) in
+    all_of_sequence before c.in-Ok.begun.info.references stands.numbers named
 
 pub returns-in-Ok-push-clause-own : goal.returns-in-Ok-push-clause-own
 returns-in-Ok-push-clause-own c = λ before stands.

@@ -1,8 +1,8 @@
 use Rattle.std.proofs.Common.{◌≡◌, ◌≤◌, Some, sym, subst}
 use Rattle.cb_types.specs.AcceptedInfo.{IsAccepted}
-use Rattle.marking.specs.History.{AreNamed, own_number}
+use Rattle.marking.specs.History.{AreApartFrom, AreNamed, own_number}
 use Rattle.marking.specs.declared.begun.Begun.{Begun}
-use Rattle.marking.proofs.BegunLemmas.{begun_accepted, begun_known, begun_named}
+use Rattle.marking.proofs.BegunLemmas.{begun_accepted, begun_apart, begun_known, begun_named}
 use Rattle.marking.proofs.StandsLemmas.{number_settled}
 use Rattle.marking.proofs.marker.Marker.begin.Goals as goal
 
@@ -15,6 +15,11 @@ pub returns-in-Ok-clause-frame : goal.returns-in-Ok-clause-frame
 returns-in-Ok-clause-frame c =
     subst (λ (b : Begun). b.frame ≤ 16) (sym c.begun_by.ensures)
     (begun_known c.args.self.now c.requires.0 c.args.sps.now c.args.pps.now c.args.header.now c.in-Ok.settled c.requires.1 c.requires.2 (sym c.in-Ok.ensures)).few
+
+pub returns-in-Ok-clause-apart : goal.returns-in-Ok-clause-apart
+returns-in-Ok-clause-apart c =
+    subst (λ (b : Begun). AreApartFrom b.frame b.info.references) (sym c.begun_by.ensures)
+    (begun_apart c.args.self.now c.requires.0 c.args.sps.now c.args.pps.now c.args.header.now c.in-Ok.settled c.requires.1 c.requires.2 (sym c.in-Ok.ensures))
 
 pub returns-in-Ok-clause-own : goal.returns-in-Ok-clause-own
 returns-in-Ok-clause-own c = λ pictures stands.

@@ -1,35 +1,21 @@
 -- An object is added.
-use Rattle.std.proofs.Common.{◌≡◌, inl, inr, ℕ, zero, suc, ◌+◌, ◌==◌, ◌||◌, Bool, true, false, true≢false, List, [], ◌∷◌, ◌++◌, slice_get, Option, Some, None, Result, Ok, Err, IfOk, OnOk, OnErr, unwrap_or, refl, sym, ap, ◌∙◌, subst, arith}
+use Rattle.std.proofs.Common.{◌≡◌, inl, inr, ℕ, ◌+◌, ◌||◌, Bool, true, false, true≢false, List, [], ◌∷◌, ◌++◌, Option, Some, None, Result, Ok, Err, IfOk, OnOk, OnErr, unwrap_or, refl, sym, ap, ◌∙◌, subst, arith}
 use Rattle.std.specs.List.{list_any}
-use Rattle.std.specs.Option.{option_map_or}
 use Rattle.std.proofs.lemmas.Bool.Decides.{nat_tests}
-use Rattle.std.proofs.lemmas.Option.{none-some}
 use Rattle.handle_table.specs.Name.{IsNameOf, kind_of}
 use Rattle.handle_table.proofs.Names.{kind_of-name_of}
 use Rattle.present_queue.specs.Queue.{Queue}
 use Rattle.present_queue.specs.Queues.{Surface}
+use Rattle.driver_objects.specs.Kinds.{has_number, holder_of, is_device, is_device_at, kind_number, number_of}
 use Rattle.driver_objects.specs.Listed.{made_object}
 use Rattle.driver_objects.specs.declared.content.Content.{Content}
 use Rattle.driver_objects.specs.declared.fault.AddFault.{AddFault}
 use Rattle.driver_objects.specs.declared.object.Object.{Object}
-use Rattle.driver_objects.proofs.Lists.{at_append}
-use Rattle.driver_core.proofs.Lists.{element_is}
-use Rattle.driver_core.specs.Kinds.{holder_of, is_device, is_device_at, kind_number, number_of}
+use Rattle.driver_objects.specs.declared.jobs.OutJob.{OutJob}
+use Rattle.driver_objects.proofs.OwnNumbers.{number_has}
+use Rattle.driver_objects.proofs.Lists.{any_append, any_at, at_append}
 use Rattle.driver_core.specs.Roles.{MayAdd}
-use Rattle.driver_core.specs.Sound.{IsSound, has_number, is_surface}
-use Rattle.driver_core.specs.declared.driver.OutJob.{OutJob}
-
-pub any_append : {X : Type 0} (test : X → Bool) (xs : List X) (y : X) → list_any test (xs ++ y ∷ []) ≡ (list_any test xs || test y)
-any_append test [] y = grind arith
-any_append test (x ∷ xs) y = grind (arith, any_append test xs y)
-
-pub any_at : {X : Type 0} (test : X → Bool) (xs : List X) (i : ℕ) (x : X) → slice_get xs i ≡ Some x → test x ≡ true → list_any test xs ≡ true
-any_at test [] i x at passes = absurd (none-some x at)
-any_at test (y ∷ xs) zero x at passes = ap (λ b. b || list_any test xs) (ap test (element_is y x at) ∙ passes)
-any_at test (y ∷ xs) (suc i) x at passes = grind (arith, any_at test xs i x at passes)
-
-pub has_number_is : (number : ℕ) (object : Object) → number_of object.content ≡ Some number → has_number number object ≡ true
-has_number_is number object is = ap (λ n. option_map_or (λ own. own == number) n false) is ∙ grind (arith, nat_tests)
+use Rattle.driver_core.specs.Sound.{IsSound, is_surface}
 
 module _ (kept : List Object) (made : ℕ) (queues : List (Queue Surface)) (jobs : List OutJob) (sound : IsSound kept made queues jobs)
     (kind name : ℕ) (device : Option ℕ) (what : Content) (may : MayAdd kept kind device what) (name_kind : kind_of name ≡ kind) where
@@ -87,10 +73,10 @@ module _ (kept : List Object) (made : ℕ) (queues : List (Queue Surface)) (jobs
     numbers_apart = λ i j a b number at bt ia ib. elim (at_append kept one a i at) [
       | inl a_was ↦ elim (at_append kept one b j bt) [
         | inl b_was ↦ sound.numbers_apart i j a b number a_was.1 b_was.1 ia ib
-        | inr b_last ↦ absurd (true≢false (sym (any_at (has_number number) kept i a a_was.1 (has_number_is number a ia)) ∙ (may.number number (ap (λ (x : Object). number_of x.content) b_last.1 ∙ ib)).1))
+        | inr b_last ↦ absurd (true≢false (sym (any_at (has_number number) kept i a a_was.1 (number_has number a ia)) ∙ (may.number number (ap (λ (x : Object). number_of x.content) b_last.1 ∙ ib)).1))
       ]
       | inr a_last ↦ elim (at_append kept one b j bt) [
-        | inl b_was ↦ absurd (true≢false (sym (any_at (has_number number) kept j b b_was.1 (has_number_is number b ib)) ∙ (may.number number (ap (λ (x : Object). number_of x.content) a_last.1 ∙ ia)).1))
+        | inl b_was ↦ absurd (true≢false (sym (any_at (has_number number) kept j b b_was.1 (number_has number b ib)) ∙ (may.number number (ap (λ (x : Object). number_of x.content) a_last.1 ∙ ia)).1))
         | inr b_last ↦ a_last.0 ∙ sym b_last.0
       ]
     ];

@@ -12,10 +12,10 @@ use Rattle.driver_objects.specs.Kept.{IsGiven, kept_of, made_of}
 use Rattle.driver_objects.specs.Listed.{made_object}
 use Rattle.driver_objects.specs.declared.content.Content.{Content}
 use Rattle.driver_objects.specs.declared.object.Object.{Object}
+use Rattle.driver_objects.specs.declared.jobs.OutJob.{OutJob}
 use Rattle.driver_objects.proofs.Lists.{at_append}
 use Rattle.driver_core.specs.Stands.{IsContent, IsNeeded, IsObject, Stands, is_ok, is_owed, told_by, told_of}
 use Rattle.driver_core.specs.declared.driver.Core.{Core}
-use Rattle.driver_core.specs.declared.driver.OutJob.{OutJob}
 
 module _ {X : Type 0} where
   pub get_before : (xs : List X) (y x : X) (i : ℕ) → slice_get xs i ≡ Some x → slice_get (xs ++ y ∷ []) i ≡ Some x

@@ -11,18 +11,19 @@ use Rattle.driver_model.specs.States.{Found, State, is_out}
 use Rattle.driver_model.specs.Surfaces.{video, video_bits}
 use Rattle.driver_model.specs.Waits.{FoundAnd}
 use Rattle.driver_model.specs.declared.numbers.TheConstants as number
+use Rattle.driver_objects.specs.Contents.{HasContent}
 use Rattle.driver_objects.specs.Kept.{kept_of}
+use Rattle.driver_objects.specs.Kinds.{is_video, kind_number}
 use Rattle.driver_objects.specs.Stored.{value_of}
 use Rattle.driver_objects.specs.declared.content.Content.{Content}
 use Rattle.driver_objects.specs.declared.content.Content.TheVariants as content
 use Rattle.driver_objects.specs.declared.content.VideoSurface.{VideoSurface}
 use Rattle.driver_objects.specs.declared.object.Object.{Object}
+use Rattle.driver_objects.proofs.Lists.{one_kept}
 use Rattle.driver_core.specs.Found.{FindsAt, HasBytes, IsFound}
-use Rattle.driver_core.specs.Kinds.{is_video, kind_number}
-use Rattle.driver_core.specs.Roles.{HasContent, IsLiveAt}
+use Rattle.driver_core.specs.Roles.{IsLiveAt}
 use Rattle.driver_core.specs.Stands.{IsContent, Stands, is_owed}
 use Rattle.driver_core.specs.declared.driver.Core.{Core}
-use Rattle.driver_core.proofs.Named.{one_kept}
 
 module _ (d : State) (surface format count : ℕ) (on : Found model.VideoSurface) (names : video d surface ≡ Ok on) where
   pub bits_of_no_format : is_ycbcr_format format ≡ false → video_bits d surface format count ≡ Err BadYCbCr
@@ -42,7 +43,7 @@ counted core d arg name index surface has found =
     let s = core.sound.videos index has.object surface has.there has.has in
     (λ i. s.1.width i * s.1.height i * 3 / 2) ∙ ap sample_bytes found.is.0
 
-is_video_of : (what : Content) → is_video what ≡ true → (surface : VideoSurface) × (what ≡ content.Video surface)
+pub is_video_of : (what : Content) → is_video what ≡ true → (surface : VideoSurface) × (what ≡ content.Video surface)
 is_video_of (content.Device of) is = absurd (false≢true is)
 is_video_of (content.Video of) is = (of, refl)
 is_video_of (content.Output of) is = absurd (false≢true is)

@@ -6,14 +6,14 @@ use Rattle.std.proofs.Math.Logic.{∥∥₁_map}
 use Rattle.handle_table.specs.Name.{kind_of}
 use Rattle.present_queue.specs.Queue.{Names, Queue}
 use Rattle.present_queue.specs.Queues.{Surface, queue_at}
+use Rattle.driver_objects.specs.Kinds.{has_number, is_device_at}
 use Rattle.driver_objects.specs.Listed.{with_content}
 use Rattle.driver_objects.specs.declared.content.Content.{Content}
 use Rattle.driver_objects.specs.declared.object.Object.{Object}
-use Rattle.driver_core.specs.Kinds.{is_device_at}
+use Rattle.driver_objects.specs.declared.jobs.OutJob.{OutJob}
+use Rattle.driver_objects.proofs.Lists.{any_set, get_set}
 use Rattle.driver_core.specs.Roles.{Fits, SameRole}
-use Rattle.driver_core.specs.Sound.{IsSound, has_number, is_surface}
-use Rattle.driver_core.specs.declared.driver.OutJob.{OutJob}
-use Rattle.driver_core.proofs.Lists.{any_set, get_set}
+use Rattle.driver_core.specs.Sound.{IsSound, is_surface}
 
 module _ (kept : List Object) (made : ℕ) (queues : List (Queue Surface)) (jobs : List OutJob) (sound : IsSound kept made queues jobs)
     (index : ℕ) (object : Object) (what : Content) (there : slice_get kept index ≡ Some object) (role : SameRole object.content what) where

@@ -1,5 +1,5 @@
 -- An object is given other content, in what is kept and in the state.
-use Rattle.std.proofs.Common.{◌≡◌, ◌≢◌, ◌⊎◌, inl, inr, ℕ, zero, suc, ◌==◌, ◌||◌, false, List, [], ◌∷◌, length, map, set, slice_get, Some, None, option_map, refl, sym, ap, ◌∙◌, subst, arith}
+use Rattle.std.proofs.Common.{◌≡◌, ◌≢◌, inl, inr, ℕ, zero, suc, ◌==◌, ◌||◌, false, List, [], ◌∷◌, length, map, set, slice_get, Some, None, option_map, refl, sym, ap, ◌∙◌, subst}
 use Rattle.std.specs.List.{cons_option, filter_map}
 use Rattle.std.proofs.lemmas.Option.{none-some}
 use Rattle.present_queue.specs.Queue.{is_queued, is_shown}
@@ -12,11 +12,11 @@ use Rattle.driver_objects.specs.Kept.{IsGiven, kept_of, made_of}
 use Rattle.driver_objects.specs.Listed.{with_content}
 use Rattle.driver_objects.specs.declared.content.Content.{Content}
 use Rattle.driver_objects.specs.declared.object.Object.{Object}
+use Rattle.driver_objects.proofs.Cases.{either}
+use Rattle.driver_objects.proofs.Lists.{element_is, get_set, get_set_apart, get_set_same, one_kept}
+use Rattle.driver_objects.proofs.Searched.{place_is_one}
 use Rattle.driver_core.specs.Stands.{AreIdle, IsContent, IsNeeded, IsObject, Stands, is_owed, told_by}
 use Rattle.driver_core.specs.declared.driver.Core.{Core}
-use Rattle.driver_objects.proofs.Searched.{place_is_one}
-use Rattle.driver_core.proofs.Lists.{element_is, get_set, get_set_other, get_set_same}
-use Rattle.driver_core.proofs.Named.{one_kept}
 
 -- ---- one object of a state is changed
 
@@ -64,9 +64,6 @@ module _ (core : Core) (d : State) (stands : Stands core d) (index : ℕ) (objec
   queued_same : (place : ℕ) → is_in_queue new place ≡ is_in_queue d place
   queued_same place = ap (λ qs. is_queued (λ p. p == place) qs || is_shown (λ p. p == place) qs) same_queues
 
-  either : (m n : ℕ) → (m ≡ n) ⊎ (m ≢ n)
-  either m n = grind arith
-
   pub content_stands : (after : Core) → kept_of after.objects ≡ set (kept_of core.objects) index (with_content object what) → made_of after.objects ≡ made_of core.objects
       → ((names : List ℕ) → IsGiven core.objects names → IsGiven after.objects names) → after.queues ≡ core.queues → after.jobs ≡ core.jobs
       → IsContent core.queues (is_owed d object.place) content what
@@ -88,7 +85,7 @@ module _ (core : Core) (d : State) (stands : Stands core d) (index : ℕ) (objec
       | inr apart ↦
           let n = stands.needed place one (sym (get_changed_other change object.place place d.objects apart) ∙ at) (ap (λ q. one.is_live || q) (sym (queued_same place)) ∙ needed) in
           let elsewhere : n.0 ≢ index = λ e. apart (sym n.3 ∙ ap (λ (x : Object). x.place) (one_kept (kept_of core.objects) index n.1 object (subst (λ i. slice_get (kept_of core.objects) i ≡ Some n.1) e n.2) there)) in
-          (n.0, n.1, ap (λ k. slice_get k n.0) kept ∙ get_set_other (kept_of core.objects) index n.0 (with_content object what) n.1 elsewhere n.2, n.3)
+          (n.0, n.1, ap (λ k. slice_get k n.0) kept ∙ get_set_apart (kept_of core.objects) index n.0 (with_content object what) n.1 elsewhere n.2, n.3)
     ];
     made = made ∙ (stands.made ∙ sym (length_changed change object.place d.objects));
     given = subst (IsGiven after.objects) (sym (names-changed change (λ one. refl) object.place d.objects)) (given (map (λ (one : model.Object). one.name) d.objects) stands.given);

@@ -1,5 +1,5 @@
 -- What is kept covers the state after an object, or the queue that it stands for, was changed.
-use Rattle.std.proofs.Common.{◌≡◌, ◌≢◌, ◌⊎◌, inl, inr, ℕ, ◌||◌, false, List, length, map, slice_get, Some, sym, ap, ◌∙◌, subst, arith}
+use Rattle.std.proofs.Common.{◌≡◌, ◌≢◌, inl, inr, ℕ, ◌||◌, false, List, length, map, slice_get, Some, sym, ap, ◌∙◌, subst}
 use Rattle.present_queue.specs.Queue.{Names, Queue}
 use Rattle.present_queue.specs.Queues.{Surface}
 use Rattle.driver_model.specs.Kept.{is_in_queue}
@@ -8,11 +8,13 @@ use Rattle.driver_model.specs.Presented.{queue_in}
 use Rattle.driver_model.specs.States.{State, changed_at}
 use Rattle.driver_objects.specs.Kept.{IsGiven, kept_of, made_of}
 use Rattle.driver_objects.specs.declared.object.Object.{Object}
+use Rattle.driver_objects.proofs.Cases.{either}
+use Rattle.driver_objects.proofs.Lists.{one_kept}
 use Rattle.driver_core.specs.Covers.{Covers, IsAllNeeded, IsOf}
 use Rattle.driver_core.specs.Stands.{AreIdle, IsNeeded, Stands, told_by, told_of}
 use Rattle.driver_core.specs.declared.driver.Core.{Core}
 use Rattle.driver_core.proofs.ContentStands.{get_changed_other, get_changed_same}
-use Rattle.driver_core.proofs.Named.{one_at, one_kept}
+use Rattle.driver_core.proofs.Named.{one_at}
 
 -- ---- the halves of what a core stands for
 
@@ -45,9 +47,6 @@ module _ (core : Core) (d : State) where
   }
 
 -- ---- one object is changed
-
-either : (m n : ℕ) → (m ≡ n) ⊎ (m ≢ n)
-either m n = grind arith
 
 -- an object that is changed is live, or names nothing
 pub idle_changed : (objects : List model.Object) (place : ℕ) (change : model.Object → model.Object) (one : model.Object) → slice_get objects place ≡ Some one → AreIdle objects

@@ -5,10 +5,10 @@ use Rattle.std.proofs.Math.Logic.{∥∥₁_elim}
 use Rattle.driver_model.specs.Objects as model
 use Rattle.driver_model.specs.declared.numbers.TheConstants as number
 use Rattle.driver_objects.specs.Kept.{kept_of}
+use Rattle.driver_objects.specs.Kinds.{holder_of, kind_number, number_of}
 use Rattle.driver_objects.specs.declared.content.Content.{Content}
 use Rattle.driver_objects.specs.declared.content.Content.TheVariants as content
 use Rattle.driver_objects.specs.declared.object.Object.{Object}
-use Rattle.driver_core.specs.Kinds.{holder_of, kind_number, number_of}
 use Rattle.driver_core.specs.Roles.{SameRole}
 use Rattle.driver_core.specs.Stands.{IsContent}
 use Rattle.driver_core.specs.declared.driver.Core.{Core}

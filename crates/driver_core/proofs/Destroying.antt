@@ -1,5 +1,5 @@
 -- An output surface or a queue is destroyed, and what isn't needed any more is let go.
-use Rattle.std.proofs.Common.{◌≡◌, ◌≢◌, ◌⊎◌, inl, inr, ℕ, ◌<◌, ◌≤◌, ◌==◌, ◌||◌, Bool, true, false, true≢false, if◌then◌else◌, List, filter, length, map, set, slice_get, Some, None, option_map, refl, sym, ap, ◌∙◌, subst, arith}
+use Rattle.std.proofs.Common.{◌≡◌, ◌≢◌, inl, inr, ℕ, ◌<◌, ◌≤◌, ◌==◌, ◌||◌, Bool, true, false, true≢false, if◌then◌else◌, List, filter, length, map, set, slice_get, Some, None, option_map, refl, sym, ap, ◌∙◌, subst, arith}
 use Rattle.std.specs.List.{list_any}
 use Rattle.std.specs.Option.{option_map_or}
 use Rattle.std.proofs.lemmas.Option.{none-some}
@@ -14,41 +14,34 @@ use Rattle.driver_model.specs.States.{State, destroyed as destroyed_in, destroye
 use Rattle.driver_model.specs.declared.numbers.TheConstants as number
 use Rattle.driver_model.proofs.Changes.{names-changed}
 use Rattle.driver_objects.specs.Kept.{IsGiven, kept_of, made_of}
+use Rattle.driver_objects.specs.Kinds.{has_number, holder_of, is_device, is_output, kind_number, number_of}
 use Rattle.driver_objects.specs.Listed.{destroyed}
+use Rattle.driver_objects.specs.Swept.{AreWithin, is_held, is_wanted}
 use Rattle.driver_objects.specs.declared.content.Content.{Content}
 use Rattle.driver_objects.specs.declared.content.Content.TheVariants as content
 use Rattle.driver_objects.specs.declared.content.PresentationQueue.{PresentationQueue}
 use Rattle.driver_objects.specs.declared.object.Object.{Object}
+use Rattle.driver_objects.proofs.Cases.{either, true_or_false}
+use Rattle.driver_objects.proofs.Filters.{filter_get}
+use Rattle.driver_objects.proofs.OwnNumbers.{has_number_is}
+use Rattle.driver_objects.proofs.Lists.{any_at, element_is, get_set, get_set_apart, one_kept, some_passes}
+use Rattle.driver_objects.proofs.QueueLists.{queue_set_other, queue_set_same}
 use Rattle.driver_objects.proofs.Searched.{place_is_one}
 use Rattle.driver_core.specs.Covers.{IsOf}
-use Rattle.driver_core.specs.Kinds.{holder_of, is_device, is_output, kind_number, number_of}
-use Rattle.driver_core.specs.Sound.{IsSound, has_number}
+use Rattle.driver_core.specs.Sound.{IsSound}
 use Rattle.driver_core.specs.Stands.{AreIdle, Stands, is_owed, told_by}
-use Rattle.driver_core.specs.Swept.{AreWithin, is_held, is_wanted}
 use Rattle.driver_core.specs.declared.driver.Core.{Core}
-use Rattle.driver_core.proofs.AddSound.{any_at}
 use Rattle.driver_core.proofs.ContentStands.{get_changed_other, get_changed_same, length_changed, queues_changed}
 use Rattle.driver_core.proofs.Covering.{idle_changed, stands_from}
 use Rattle.driver_core.proofs.DeadQueues.{dead_number}
-use Rattle.driver_core.proofs.Filters.{filter_get}
-use Rattle.driver_core.proofs.Handles.{some_passes}
-use Rattle.driver_core.proofs.Lists.{element_is, get_set, get_set_other}
 use Rattle.driver_core.proofs.ModelKinds.{queue_other}
-use Rattle.driver_core.proofs.Named.{kinds_same, one_at, one_kept}
+use Rattle.driver_core.proofs.Named.{kinds_same, one_at}
 use Rattle.driver_core.proofs.NamedBoth.{core_named, state_named}
 use Rattle.driver_core.proofs.NamesOfQueues.{InQueue, in_queue, queue_in}
-use Rattle.driver_core.proofs.Presenting.{has_number_is}
-use Rattle.driver_core.proofs.QueueSound.{number_within, queue_set_other, queue_set_same}
-use Rattle.driver_core.proofs.StillContent.{content_still}
+use Rattle.driver_core.proofs.QueueSound.{number_within}
 use Rattle.driver_core.proofs.QueueStands.{other_numbers}
+use Rattle.driver_core.proofs.StillContent.{content_still}
 use Rattle.driver_core.proofs.Sweeping.{swept, swept_covers, swept_needed, swept_sound}
-
-either : (m n : ℕ) → (m ≡ n) ⊎ (m ≢ n)
-either m n = grind arith
-
-true_or_false : (b : Bool) → (b ≡ true) ⊎ (b ≡ false)
-true_or_false true = inl refl
-true_or_false false = inr refl
 
 -- ---- holders
 
@@ -81,7 +74,7 @@ module _ (core : Core) (index : ℕ) (object : Object) (there : slice_get (kept_
           | inl e ↦ own number (ap (λ (x : Object). number_of x.content) (one_kept (kept_of core.objects) index object s.1 there (subst (λ i. slice_get (kept_of core.objects) i ≡ Some s.1) e s.2)) ∙ has)
           | inr apart ↦
               let live = dead_number core s.0 s.1 number s.2 has in
-              let f = filter_get (is_wanted queues) (set (kept_of core.objects) index (destroyed object)) s.0 s.1 (get_set_other (kept_of core.objects) index s.0 (destroyed object) s.1 apart s.2) (grind (arith, live)) in
+              let f = filter_get (is_wanted queues) (set (kept_of core.objects) index (destroyed object)) s.0 s.1 (get_set_apart (kept_of core.objects) index s.0 (destroyed object) s.1 apart s.2) (grind (arith, live)) in
               absurd (true≢false (sym (any_at (has_number number) (swept core index object there queues fewer) f.0 s.1 f.1 s.3) ∙ none))
         ]
     | inr unused ↦ still number (core.sound.unused number unused)

@@ -21,18 +21,17 @@ use Rattle.driver_model.specs.declared.numbers.TheConstants as number
 use Rattle.driver_model.specs.declared.replies.Answer.TheVariants.{Done}
 use Rattle.driver_model.proofs.Named.{found_of}
 use Rattle.driver_objects.specs.Kept.{kept_of, made_of}
+use Rattle.driver_objects.specs.Kinds.{holder_of, number_of}
 use Rattle.driver_objects.specs.Listed.{IsOnly, called}
 use Rattle.driver_objects.specs.declared.content.Content.TheVariants as content
 use Rattle.driver_objects.specs.declared.content.PresentationQueue.{PresentationQueue}
 use Rattle.driver_objects.specs.declared.object.Object.{Object}
+use Rattle.driver_objects.proofs.Lists.{any_at, one_kept}
 use Rattle.driver_core.specs.Answered.{Takes}
-use Rattle.driver_core.specs.Kinds.{holder_of, number_of}
 use Rattle.driver_core.specs.Sound.{IsSound, is_surface}
 use Rattle.driver_core.specs.Stands.{IsContent, Stands, by_place, is_owed}
 use Rattle.driver_core.specs.declared.driver.Core.{Core}
-use Rattle.driver_core.proofs.AddSound.{any_at}
 use Rattle.driver_core.proofs.Covering.{stands_same}
-use Rattle.driver_core.proofs.Named.{one_kept}
 use Rattle.driver_core.proofs.QueueSound.{queue_sound}
 use Rattle.driver_core.proofs.QueueStands.{IsLiveSurface}
 use Rattle.driver_core.proofs.QueueWrites.{queue_written}

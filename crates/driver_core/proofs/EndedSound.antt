@@ -6,21 +6,22 @@ use Rattle.handle_table.specs.Name.{kind_of}
 use Rattle.present_queue.specs.Queue.{Names, Queue, empty_queue, most_entries}
 use Rattle.present_queue.specs.Queues.{IsWithinLimits, Surface, queue_at}
 use Rattle.present_queue.proofs.NameLemmas.{Names-empty}
+use Rattle.driver_objects.specs.DeviceEnds.{ended, is_queue_on}
 use Rattle.driver_objects.specs.Kept.{kept_of, made_of}
+use Rattle.driver_objects.specs.Kinds.{has_number, holder_of, is_device, is_device_at, kind_number, number_of}
+use Rattle.driver_objects.specs.Swept.{AreWithin, is_wanted}
 use Rattle.driver_objects.specs.declared.object.Object.{Object}
-use Rattle.driver_core.specs.DeviceEnds.{ended, is_queue_on}
-use Rattle.driver_core.specs.Kinds.{holder_of, is_device, is_device_at, kind_number, number_of}
-use Rattle.driver_core.specs.Sound.{IsSound, has_number, is_surface}
-use Rattle.driver_core.specs.Swept.{AreWithin, is_wanted}
+use Rattle.driver_objects.proofs.Cases.{true_or_false}
+use Rattle.driver_objects.proofs.Ending.{ended_keeps, ended_lives, ended_other, is_on_queue}
+use Rattle.driver_objects.proofs.Filters.{filter_get, get_filter}
+use Rattle.driver_objects.proofs.OwnNumbers.{has_number_is}
+use Rattle.driver_objects.proofs.Lists.{any_at, one_kept, some_passes}
+use Rattle.driver_objects.proofs.Maps.{get_map, map_get}
+use Rattle.driver_objects.proofs.Wanted.{IsHeld, held_wanted, wanted_held}
+use Rattle.driver_core.specs.Sound.{IsSound, is_surface}
 use Rattle.driver_core.specs.declared.driver.Core.{Core}
-use Rattle.driver_core.proofs.AddSound.{any_at}
 use Rattle.driver_core.proofs.DeadQueues.{dead_number}
-use Rattle.driver_core.proofs.Ending.{ended_keeps, ended_lives, ended_other, get_map, is_on_queue, map_get, true_or_false}
-use Rattle.driver_core.proofs.Filters.{filter_get, get_filter}
-use Rattle.driver_core.proofs.Handles.{some_passes}
-use Rattle.driver_core.proofs.Named.{one_kept}
-use Rattle.driver_core.proofs.Presenting.{has_number_is, holder_is, is_holder}
-use Rattle.driver_core.proofs.Wanted.{IsHeld, held_wanted, wanted_held}
+use Rattle.driver_core.proofs.Presenting.{holder_is, is_holder}
 
 pub ended_within : (core : Core) (on : ℕ) (kept : List Object) → kept ≡ map (ended on) (kept_of core.objects) → AreWithin kept
 ended_within core on kept is i o holder at has =

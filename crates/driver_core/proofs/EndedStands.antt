@@ -11,32 +11,32 @@ use Rattle.driver_model.specs.Objects as model
 use Rattle.driver_model.specs.Presented.{queue_in as queue_of_object}
 use Rattle.driver_model.specs.Queues.{emptied}
 use Rattle.driver_model.specs.States.{State}
+use Rattle.driver_objects.specs.DeviceEnds.{ended, is_queue_on}
 use Rattle.driver_objects.specs.Kept.{IsGiven, kept_of, made_of}
+use Rattle.driver_objects.specs.Kinds.{holder_of, number_of}
 use Rattle.driver_objects.specs.Listed.{destroyed}
+use Rattle.driver_objects.specs.Swept.{is_wanted}
 use Rattle.driver_objects.specs.declared.content.Content.{Content}
 use Rattle.driver_objects.specs.declared.content.Content.TheVariants as content
 use Rattle.driver_objects.specs.declared.object.Object.{Object}
+use Rattle.driver_objects.proofs.Cases.{true_or_false}
+use Rattle.driver_objects.proofs.Ending.{ended_keeps, ended_on, ended_other, is_on_queue, queue_on_is}
+use Rattle.driver_objects.proofs.Lists.{any_at, element_is, one_kept, some_passes}
+use Rattle.driver_objects.proofs.Maps.{get_map, map_get}
 use Rattle.driver_objects.proofs.Searched.{place_is_one}
+use Rattle.driver_objects.proofs.Wanted.{held_wanted, wanted_held}
 use Rattle.driver_core.specs.Covers.{Covers, IsAllNeeded, IsOf}
-use Rattle.driver_core.specs.DeviceEnds.{ended, is_queue_on}
-use Rattle.driver_core.specs.Kinds.{holder_of, number_of}
 use Rattle.driver_core.specs.Sound.{is_surface}
 use Rattle.driver_core.specs.Stands.{AreIdle, IsContent, Stands, is_owed, told_by}
-use Rattle.driver_core.specs.Swept.{is_wanted}
 use Rattle.driver_core.specs.declared.driver.Core.{Core}
-use Rattle.driver_core.proofs.AddSound.{any_at}
 use Rattle.driver_core.proofs.Covering.{covers_of, stands_from}
 use Rattle.driver_core.proofs.DeadQueues.{dead_number}
 use Rattle.driver_core.proofs.EndedSound.{QueuesEnd, fewer, held_as, live_stays, not_on, stays, swept, was}
-use Rattle.driver_core.proofs.Ending.{ended_keeps, ended_on, ended_other, get_map, is_on_queue, map_get, queue_on_is, true_or_false}
-use Rattle.driver_core.proofs.Handles.{some_passes}
-use Rattle.driver_core.proofs.Lists.{element_is}
-use Rattle.driver_core.proofs.Named.{one_at, one_kept}
+use Rattle.driver_core.proofs.Named.{one_at}
 use Rattle.driver_core.proofs.NamedBoth.{core_named, state_named}
 use Rattle.driver_core.proofs.NamesOfQueues.{InQueue, in_queue, queue_in}
 use Rattle.driver_core.proofs.Presenting.{holder_is}
 use Rattle.driver_core.proofs.StillContent.{content_still}
-use Rattle.driver_core.proofs.Wanted.{held_wanted, wanted_held}
 
 -- ---- one object of the state
 

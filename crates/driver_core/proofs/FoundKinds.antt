@@ -4,18 +4,19 @@ use Rattle.std.specs.List.{list_any}
 use Rattle.vd_status.specs.declared.refusal.Refusal.{Refusal}
 use Rattle.driver_model.specs.Objects as model
 use Rattle.driver_model.specs.declared.numbers.TheConstants as number
+use Rattle.driver_objects.specs.Contents.{HasContent}
 use Rattle.driver_objects.specs.Kept.{kept_of}
+use Rattle.driver_objects.specs.Kinds.{is_decoder, is_device_at, is_mixer, is_output, is_video, kind_number}
 use Rattle.driver_objects.specs.declared.content.Content.{Content}
 use Rattle.driver_objects.specs.declared.content.Content.TheVariants as content
 use Rattle.driver_objects.specs.declared.object.Object.{Object}
+use Rattle.driver_objects.proofs.Lists.{one_kept}
 use Rattle.driver_core.specs.Found.{FindsAt, IsOn, Refuses}
-use Rattle.driver_core.specs.Kinds.{is_decoder, is_device_at, is_mixer, is_output, is_video, kind_number}
 use Rattle.driver_core.specs.Looked.{IsInUse}
-use Rattle.driver_core.specs.Roles.{HasContent, IsLiveAt}
+use Rattle.driver_core.specs.Roles.{IsLiveAt}
 use Rattle.driver_core.specs.declared.driver.Core.{Core}
 use Rattle.driver_core.proofs.Handles.{called_kind, called_within, device_by_kind, found_err, found_ok}
 use Rattle.driver_core.proofs.ModelKinds.{decoder_is, decoder_kind, decoder_other, device_is, device_kind, device_other, mixer_is, mixer_kind, mixer_other, output_is, output_kind, output_other, video_is, video_kind, video_other}
-use Rattle.driver_core.proofs.Named.{one_kept}
 
 -- ---- a handle of a known kind
 

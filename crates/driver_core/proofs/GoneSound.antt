@@ -4,12 +4,12 @@ use Rattle.std.specs.List.{list_any, remove}
 use Rattle.std.specs.Option.{option_map_or}
 use Rattle.present_queue.specs.Queue.{Queue}
 use Rattle.present_queue.specs.Queues.{Surface}
+use Rattle.driver_objects.specs.Kinds.{has_number, is_device_at}
 use Rattle.driver_objects.specs.declared.object.Object.{Object}
-use Rattle.driver_core.specs.Kinds.{is_device_at}
+use Rattle.driver_objects.specs.declared.jobs.OutJob.{OutJob}
+use Rattle.driver_objects.proofs.Removed.{any_remove, one_place, stood_before}
 use Rattle.driver_core.specs.Roles.{MayDestroy}
-use Rattle.driver_core.specs.Sound.{IsSound, has_number, is_surface}
-use Rattle.driver_core.specs.declared.driver.OutJob.{OutJob}
-use Rattle.driver_core.proofs.Removed.{any_remove, one_place, stood_before}
+use Rattle.driver_core.specs.Sound.{IsSound, is_surface}
 
 and_false : (b : Bool) → (b && false) ≡ false
 and_false b = grind arith

@@ -1,5 +1,5 @@
 -- An object is destroyed and let go, in what is kept and in the state.
-use Rattle.std.proofs.Common.{◌≡◌, ◌≢◌, ◌⊎◌, inl, inr, ℕ, ◌==◌, ◌||◌, Bool, true, false, if◌then◌else◌, List, map, slice_get, Some, None, option_map, refl, sym, ap, ◌∙◌, subst, arith}
+use Rattle.std.proofs.Common.{◌≡◌, ◌≢◌, inl, inr, ℕ, ◌==◌, ◌||◌, Bool, true, false, if◌then◌else◌, List, map, slice_get, Some, None, option_map, refl, sym, ap, ◌∙◌, subst, arith}
 use Rattle.std.specs.List.{remove}
 use Rattle.std.proofs.lemmas.Option.{none-some}
 use Rattle.present_queue.specs.Queue.{is_queued, is_shown}
@@ -10,19 +10,21 @@ use Rattle.driver_model.specs.States.{State, destroyed}
 use Rattle.driver_model.specs.declared.numbers.TheConstants as number
 use Rattle.driver_model.proofs.Changes.{names-changed}
 use Rattle.driver_objects.specs.Kept.{IsGiven, kept_of, made_of}
+use Rattle.driver_objects.specs.Kinds.{kind_number, number_of}
 use Rattle.driver_objects.specs.declared.content.Content.{Content}
 use Rattle.driver_objects.specs.declared.content.Content.TheVariants as content
 use Rattle.driver_objects.specs.declared.object.Object.{Object}
+use Rattle.driver_objects.proofs.Cases.{either}
+use Rattle.driver_objects.proofs.Lists.{one_kept}
+use Rattle.driver_objects.proofs.Removed.{stays, stood_before, stood_elsewhere}
 use Rattle.driver_objects.proofs.Searched.{place_is_one}
-use Rattle.driver_core.specs.Kinds.{kind_number, number_of}
 use Rattle.driver_core.specs.Roles.{MayDestroy}
 use Rattle.driver_core.specs.Stands.{IsContent, Stands, is_owed, told_by}
 use Rattle.driver_core.specs.declared.driver.Core.{Core}
 use Rattle.driver_core.proofs.ContentStands.{get_changed_other, get_changed_same, length_changed, queues_changed}
 use Rattle.driver_core.proofs.ModelKinds.{queue_other}
-use Rattle.driver_core.proofs.Named.{kinds_same, one_at, one_kept}
+use Rattle.driver_core.proofs.Named.{kinds_same, one_at}
 use Rattle.driver_core.proofs.NamedSurfaces.{not_named}
-use Rattle.driver_core.proofs.Removed.{stays, stood_before, stood_elsewhere}
 
 -- what has no number is no queue
 no_queue : (kept : Content) → number_of kept ≡ None → kind_number kept ≡ number.PRESENTATION_QUEUE → ⊥
@@ -61,9 +63,6 @@ module _ (core : Core) (d : State) (stands : Stands core d) (index : ℕ) (may :
 
   queued_same : (place : ℕ) → is_in_queue new place ≡ is_in_queue d place
   queued_same place = ap (λ qs. is_queued (λ p. p == place) qs || is_shown (λ p. p == place) qs) queues_same
-
-  either : (m n : ℕ) → (m ≡ n) ⊎ (m ≢ n)
-  either m n = grind arith
 
   gone : (after : Core) → kept_of after.objects ≡ remove (kept_of core.objects) index → made_of after.objects ≡ made_of core.objects
       → ((names : List ℕ) → IsGiven core.objects names → IsGiven after.objects names) → after.queues ≡ core.queues → after.jobs ≡ core.jobs

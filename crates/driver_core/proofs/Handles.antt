@@ -1,10 +1,8 @@
 -- What looks at handles find, in what is kept and in the state.
-use Rattle.std.proofs.Common.{◌≡◌, inl, inr, ℕ, suc, ◌==◌, ◌||◌, Bool, true, false, if◌then◌else◌, List, [], ◌∷◌, get_or, slice_get, Option, Some, None, Ok, Err, refl, sym, ap, ◌∙◌, subst, ◌<◌, length, arith}
-use mathlib.Core.Bool.{false≢true}
-use Rattle.std.specs.List.{list_any}
+use Rattle.std.proofs.Common.{◌≡◌, inl, inr, ℕ, ◌==◌, Bool, true, false, if◌then◌else◌, List, slice_get, Option, Some, None, Ok, Err, refl, sym, ap, ◌∙◌, subst, ◌<◌, length, arith}
 use Rattle.std.specs.Option.{option_and_then, option_map_or}
 use Rattle.std.proofs.lemmas.Bool.Decides.{nat_tests}
-use Rattle.std.proofs.lemmas.Option.{slice_get-get_or, slice_get_within}
+use Rattle.std.proofs.lemmas.Option.{slice_get_within}
 use Rattle.vd_status.specs.declared.refusal.Refusal.{Refusal}
 use Rattle.vd_status.specs.declared.refusal.Refusal.TheVariants.{DeviceMismatch, Preempted}
 use Rattle.present_queue.specs.Queue.{Queue}
@@ -13,60 +11,21 @@ use Rattle.driver_model.specs.Objects as model
 use Rattle.driver_model.specs.Refusals.{further_handle, in_use}
 use Rattle.driver_model.specs.States.{State, is_preempted, named}
 use Rattle.driver_model.proofs.Named.{found_of}
+use Rattle.driver_model.specs.declared.numbers.TheConstants as number
+use Rattle.driver_objects.specs.Contents.{HasContent, HasDevice}
 use Rattle.driver_objects.specs.Kept.{kept_of}
-use Rattle.driver_objects.specs.Listed.{IsOnly, called, is_at}
+use Rattle.driver_objects.specs.Kinds.{is_device, kind_number}
+use Rattle.driver_objects.specs.Listed.{IsOnly, called}
 use Rattle.driver_objects.specs.declared.content.Content.{Content}
 use Rattle.driver_objects.specs.declared.content.Content.TheVariants as content
 use Rattle.driver_objects.specs.declared.content.Device.{Device}
 use Rattle.driver_objects.specs.declared.object.Object.{Object}
-use Rattle.driver_model.specs.declared.numbers.TheConstants as number
+use Rattle.driver_objects.proofs.Lists.{one_kept}
 use Rattle.driver_core.specs.Found.{Finds, Refuses}
-use Rattle.driver_core.specs.Kinds.{is_device, is_device_at, kind_number}
-use Rattle.driver_core.specs.Roles.{HasContent}
-use Rattle.driver_core.specs.Looked.{HasDevice, IsFurther, IsInUse}
+use Rattle.driver_core.specs.Looked.{IsFurther, IsInUse}
 use Rattle.driver_core.specs.Stands.{IsContent, Stands, is_owed}
 use Rattle.driver_core.specs.declared.driver.Core.{Core}
-use Rattle.driver_core.proofs.Named.{FindsAs, found_none, found_some, one_kept}
-
--- an element of a list that passes a test
-pub some_passes : (test : Object → Bool) (kept : List Object) → list_any test kept ≡ true → (i : ℕ) × (object : Object) × (slice_get kept i ≡ Some object) × (test object ≡ true)
-some_passes test [] any = absurd (false≢true any)
-some_passes test (first ∷ later) any = go (test first) refl (some_passes test later) any where
-  go : (b : Bool) → test first ≡ b → (list_any test later ≡ true → (i : ℕ) × (object : Object) × (slice_get later i ≡ Some object) × (test object ≡ true))
-      → (b || list_any test later) ≡ true → (i : ℕ) × (object : Object) × (slice_get (first ∷ later) i ≡ Some object) × (test object ≡ true)
-  go true t further e = (0, first, refl, t)
-  go false t further e = let f = further e in (suc f.0, f.1, f.2, f.3)
-
--- the object at the place that the search gave is the live device
-pub device_there : (kept : List Object) (place index : ℕ) (object : Object) → list_any (is_device_at place) kept ≡ true → IsOnly (is_at place) kept (Some index) → slice_get kept index ≡ Some object
-    → (object.is_live ≡ true) × (object.place ≡ place) × (is_device object.content ≡ true)
-device_there kept place index object any only at =
-    let s = some_passes (is_device_at place) kept any in
-    let here : s.0 ≡ index = only.1 s.0 (record { object = s.1; stands = s.2; passes = grind (arith, s.3) }) in
-    let same : s.1 ≡ object = one_kept kept index s.1 object (subst (λ i. slice_get kept i ≡ Some s.1) here s.2) at in
-    let passes : is_device_at place object ≡ true = ap (is_device_at place) (sym same) ∙ s.3 in
-    (grind (arith, passes), grind (arith, nat_tests, passes), grind (arith, passes))
-
-pub device_missing : (kept : List Object) (place : ℕ) → list_any (is_device_at place) kept ≡ true → IsOnly (is_at place) kept None → ⊥
-device_missing kept place any none =
-    let s = some_passes (is_device_at place) kept any in
-    none s.0 (record { object = s.1; stands = s.2; passes = grind (arith, s.3) })
-
--- what is read there
-pub record ReadsDevice (kept : List Object) (place index : ℕ) (object : Object) : Type 0 where
-  pub stands : slice_get kept index ≡ Some object
-  pub live : object.is_live ≡ true
-  pub at_place : object.place ≡ place
-  pub is : is_device object.content ≡ true
-
-pub read_device : (kept : List Object) (place index : ℕ) (default : Object) → list_any (is_device_at place) kept ≡ true → IsOnly (is_at place) kept (Some index) → ReadsDevice kept place index (get_or kept index default)
-read_device kept place index default any only =
-    let within = slice_get_within kept index only.0.object only.0.stands in
-    let stands = slice_get-get_or kept index default within in
-    let there = device_there kept place index (get_or kept index default) any only stands in
-    record { stands = stands; live = there.0; at_place = there.1; is = there.2 }
-
--- ---- in the state
+use Rattle.driver_core.proofs.Named.{FindsAs, found_none, found_some}
 
 -- what is kept of a device says what it has
 pub device_of : (queues : List (Queue Surface)) (owed : Bool) (what : model.Content) (kept : Device) → IsContent queues owed what (content.Device kept)

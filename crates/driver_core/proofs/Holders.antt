@@ -1,5 +1,5 @@
 -- How many holders are taken.
-use Rattle.std.proofs.Common.{◌≡◌, inl, inr, ℕ, zero, suc, ◌+◌, ◌*◌, ◌<◌, ◌≤◌, ◌==◌, ◌||◌, Bool, true, false, true≢false, eqb, if◌then◌else◌, List, [], ◌∷◌, ◌++◌, Contains, length, map, Option, Some, None, option_map, refl, sym, ap, ◌∙◌, subst, arith}
+use Rattle.std.proofs.Common.{◌≡◌, inl, inr, ℕ, zero, suc, ◌+◌, ◌*◌, ◌<◌, ◌≤◌, ◌||◌, Bool, true, false, eqb, if◌then◌else◌, List, [], ◌∷◌, ◌++◌, Contains, length, map, Option, Some, None, option_map, refl, sym, ap, ◌∙◌, subst, arith}
 use Rattle.std.specs.List.{cons_option, count_by, filter_map, list_any}
 use Rattle.std.specs.Option.{option_map_or}
 use Rattle.std.proofs.Math.Logic.{∥∥₁_elim}
@@ -15,22 +15,14 @@ use Rattle.present_queue.specs.Queues.{Surface, queue_at}
 use Rattle.driver_model.specs.Creates.{is_full}
 use Rattle.driver_model.specs.States.{State}
 use Rattle.driver_objects.specs.Kept.{kept_of}
+use Rattle.driver_objects.specs.Kinds.{has_own_holder, holder_of}
 use Rattle.driver_objects.specs.declared.object.Object.{Object}
-use Rattle.driver_core.specs.Kinds.{has_own_holder, holder_of}
+use Rattle.driver_objects.proofs.OwnNumbers.{it_has}
+use Rattle.driver_objects.proofs.Lists.{some_passes}
+use Rattle.driver_objects.proofs.Numbers.{count_ge, distinct, number_from}
 use Rattle.driver_core.specs.Stands.{Stands}
 use Rattle.driver_core.specs.declared.driver.Core.{Core}
-use Rattle.driver_core.proofs.Handles.{some_passes}
 use Rattle.driver_core.proofs.Live.{live_all}
-use Rattle.driver_core.proofs.Numbers.{count_ge, distinct, number_from}
-
-pub has_it : (holder : ℕ) (object : Object) → holder_of object.content ≡ Some holder → has_own_holder holder object ≡ true
-has_it holder object has = ap (λ h. option_map_or (λ own. own == holder) h false) has ∙ grind (arith, nat_tests)
-
-it_has : (holder : ℕ) (object : Object) → has_own_holder holder object ≡ true → holder_of object.content ≡ Some holder
-it_has holder object is = by_holder (holder_of object.content) is where
-  by_holder : (h : Option ℕ) → option_map_or (λ own. own == holder) h false ≡ true → h ≡ Some holder
-  by_holder None is = absurd (true≢false (sym is))
-  by_holder (Some own) is = let same : own ≡ holder = grind (arith, nat_tests, is) in ap Some same
 
 -- ---- the holders that queues name
 

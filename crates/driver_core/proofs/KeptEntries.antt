@@ -1,5 +1,5 @@
 -- As many entries are kept as the live queues of the state have.
-use Rattle.std.proofs.Common.{◌≡◌, ◌≢◌, ◌⊎◌, inl, inr, ℕ, zero, suc, ◌+◌, Bool, true, false, if◌then◌else◌, List, [], ◌∷◌, length, set, slice_get, Option, Some, None, refl, sym, ap, ◌∙◌, subst, arith}
+use Rattle.std.proofs.Common.{◌≡◌, ◌≢◌, inl, inr, ℕ, zero, suc, ◌+◌, Bool, true, false, if◌then◌else◌, List, [], ◌∷◌, length, set, slice_get, Option, Some, None, refl, sym, ap, ◌∙◌, subst, arith}
 use Rattle.std.specs.List.{cons_option, filter_map, list_any, sum_by}
 use Rattle.std.proofs.lemmas.List.{length-map}
 use Rattle.std.proofs.lemmas.List.Sums.{sum_by-cons}
@@ -11,16 +11,15 @@ use Rattle.driver_model.specs.Objects as model
 use Rattle.driver_model.specs.Presented.{queue_in}
 use Rattle.driver_model.specs.States.{State}
 use Rattle.driver_objects.specs.Kept.{kept_of, made_of}
+use Rattle.driver_objects.specs.Kinds.{has_number, number_of}
 use Rattle.driver_objects.specs.declared.object.Object.{Object}
+use Rattle.driver_objects.proofs.Cases.{either}
+use Rattle.driver_objects.proofs.OwnNumbers.{has_number_is}
+use Rattle.driver_objects.proofs.Lists.{element_is, one_kept, some_passes}
 use Rattle.driver_objects.proofs.Searched.{place_is_one}
-use Rattle.driver_core.specs.Kinds.{number_of}
-use Rattle.driver_core.specs.Sound.{has_number}
 use Rattle.driver_core.specs.Stands.{Stands, by_place}
 use Rattle.driver_core.specs.declared.driver.Core.{Core}
-use Rattle.driver_core.proofs.Handles.{some_passes}
-use Rattle.driver_core.proofs.Lists.{element_is}
-use Rattle.driver_core.proofs.Named.{one_kept}
-use Rattle.driver_core.proofs.Presenting.{has_number_is, queue_from, queue_is}
+use Rattle.driver_core.proofs.Presenting.{queue_from, queue_is}
 
 -- how many entries the queue of a number has
 abbrev entries_at : List (Queue Surface) → ℕ → ℕ
@@ -65,9 +64,6 @@ none_counted (queue ∷ queues) none =
     let first = none 0 in
     let later = none_counted queues (λ number. none (suc number)) in
     omega (arith, all, first, later)
-
-either : (m n : ℕ) → (m ≡ n) ⊎ (m ≢ n)
-either m n = grind arith
 
 -- ---- queues by their places, and by their numbers
 

@@ -11,16 +11,16 @@ use Rattle.std.proofs.lemmas.Option.{none-some}
 use Rattle.driver_model.specs.Kept.{is_in_queue, is_kept}
 use Rattle.driver_model.specs.Objects as model
 use Rattle.driver_model.specs.States.{State}
+use Rattle.driver_objects.specs.Counted.{has_picture}
 use Rattle.driver_objects.specs.Kept.{kept_of}
+use Rattle.driver_objects.specs.Kinds.{holder_of, kind_number}
 use Rattle.driver_objects.specs.declared.content.Content.{Content}
 use Rattle.driver_objects.specs.declared.content.Content.TheVariants as content
 use Rattle.driver_objects.specs.declared.object.Object.{Object}
-use Rattle.driver_core.specs.Counted.{has_picture}
-use Rattle.driver_core.specs.Kinds.{holder_of, kind_number}
+use Rattle.driver_objects.proofs.Counting.{same_count}
+use Rattle.driver_objects.proofs.Lists.{element_is}
 use Rattle.driver_core.specs.Stands.{Stands, is_owed}
 use Rattle.driver_core.specs.declared.driver.Core.{Core}
-use Rattle.driver_core.proofs.Counting.{same_count}
-use Rattle.driver_core.proofs.Lists.{element_is}
 use Rattle.driver_core.proofs.Named.{kinds_same, one_at}
 
 -- ---- places

@@ -10,13 +10,13 @@ use Rattle.driver_model.specs.Kept.{is_in_queue}
 use Rattle.driver_model.specs.Objects as model
 use Rattle.driver_model.specs.States.{State, is_given, live_count}
 use Rattle.driver_objects.specs.Kept.{kept_of}
+use Rattle.driver_objects.specs.Kinds.{is_device}
 use Rattle.driver_objects.specs.declared.content.Content.{Content}
 use Rattle.driver_objects.specs.declared.content.Content.TheVariants as content
 use Rattle.driver_objects.specs.declared.object.Object.{Object}
-use Rattle.driver_core.specs.Kinds.{is_device}
+use Rattle.driver_objects.proofs.Counting.{same_count}
 use Rattle.driver_core.specs.Stands.{IsContent, Stands, is_owed}
 use Rattle.driver_core.specs.declared.driver.Core.{Core}
-use Rattle.driver_core.proofs.Counting.{same_count}
 use Rattle.driver_core.proofs.Named.{one_at}
 
 module _ (core : Core) (d : State) (stands : Stands core d) (test : model.Content → Bool) (kept_test : Content → Bool)

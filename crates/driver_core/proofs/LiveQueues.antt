@@ -10,20 +10,18 @@ use Rattle.driver_model.specs.Kept.{is_in_queue, live_queue}
 use Rattle.driver_model.specs.Objects as model
 use Rattle.driver_model.specs.States.{State, with_object}
 use Rattle.driver_objects.specs.Kept.{kept_of}
+use Rattle.driver_objects.specs.Kinds.{has_number, is_queue, number_of}
 use Rattle.driver_objects.specs.declared.content.Content.{Content}
 use Rattle.driver_objects.specs.declared.content.Content.TheVariants as content
 use Rattle.driver_objects.specs.declared.object.Object.{Object}
+use Rattle.driver_objects.proofs.OwnNumbers.{has_number_is, number_has}
+use Rattle.driver_objects.proofs.Lists.{any_append, any_at, some_passes}
+use Rattle.driver_objects.proofs.Numbers.{count_ge, count_le, count_lt, length_filtered}
 use Rattle.driver_core.specs.Added.{made_in}
-use Rattle.driver_core.specs.Kinds.{is_queue, number_of}
-use Rattle.driver_core.specs.Sound.{has_number}
 use Rattle.driver_core.specs.Stands.{IsContent, Stands}
 use Rattle.driver_core.specs.declared.driver.Core.{Core}
-use Rattle.driver_core.proofs.AddSound.{any_append, any_at, has_number_is as number_has}
 use Rattle.driver_core.proofs.DeadQueues.{dead_number}
-use Rattle.driver_core.proofs.Handles.{some_passes}
 use Rattle.driver_core.proofs.Live.{live_counted}
-use Rattle.driver_core.proofs.Numbers.{count_ge, count_le, count_lt, length_filtered}
-use Rattle.driver_core.proofs.Presenting.{has_number_is}
 
 queues_agree : (queues : List (Queue Surface)) (owed : Bool) (what : model.Content) (kept : Content) → IsContent queues owed what kept → is_some (model.as_queue what) ≡ is_queue kept
 queues_agree queues owed (model.DeviceObject of) (content.Device kept) is = refl

@@ -9,20 +9,18 @@ use Rattle.driver_model.specs.Objects as model
 use Rattle.driver_model.specs.States.{State, named}
 use Rattle.driver_model.proofs.Named.{found_of, named-None, named-is}
 use Rattle.driver_objects.specs.Kept.{kept_of}
+use Rattle.driver_objects.specs.Kinds.{kind_number}
 use Rattle.driver_objects.specs.Listed.{HasObjectAt, IsOnly, called}
 use Rattle.driver_objects.specs.declared.content.Content.{Content}
 use Rattle.driver_objects.specs.declared.content.Content.TheVariants as content
 use Rattle.driver_objects.specs.declared.object.Object.{Object}
-use Rattle.driver_core.specs.Kinds.{kind_number}
+use Rattle.driver_objects.proofs.Lists.{one_kept}
 use Rattle.driver_core.specs.Stands.{IsContent, IsObject, Stands, is_owed}
 use Rattle.driver_core.specs.declared.driver.Core.{Core}
 
 -- what stands at one place of a list is one object
 pub one_at : (objects : List model.Object) (place : ℕ) (a b : model.Object) → slice_get objects place ≡ Some a → slice_get objects place ≡ Some b → a ≡ b
 one_at objects place a b here there = ap (λ o. unwrap_or o a) (sym here ∙ there)
-
-pub one_kept : (kept : List Object) (index : ℕ) (a b : Object) → slice_get kept index ≡ Some a → slice_get kept index ≡ Some b → a ≡ b
-one_kept kept index a b here there = ap (λ o. unwrap_or o a) (sym here ∙ there)
 
 -- what is kept of an object is of its kind
 pub kinds_same : (queues : List (Queue Surface)) (owed : Bool) (content : model.Content) (kept : Content) → IsContent queues owed content kept → model.kind_number content ≡ kind_number kept

@@ -1,5 +1,5 @@
 -- What the queues of a core name, the live queues of its state name, and the other way round.
-use Rattle.std.proofs.Common.{◌≡◌, ◌⊎◌, inl, inr, ℕ, Bool, true, false, if◌then◌else◌, slice_get, Some, None, option_map, refl, sym, ap, ◌∙◌, subst}
+use Rattle.std.proofs.Common.{◌≡◌, inl, inr, ℕ, if◌then◌else◌, slice_get, Some, None, option_map, refl, sym, ap, ◌∙◌, subst}
 use Rattle.std.specs.List.{list_any}
 use Rattle.present_queue.specs.Queue.{Names}
 use Rattle.present_queue.specs.Queues.{Surface, queue_at}
@@ -8,18 +8,15 @@ use Rattle.driver_model.specs.Objects as model
 use Rattle.driver_model.specs.Presented.{queue_in as queue_of_object}
 use Rattle.driver_model.specs.States.{State}
 use Rattle.driver_objects.specs.Kept.{kept_of}
+use Rattle.driver_objects.specs.Kinds.{has_number, number_of}
 use Rattle.driver_objects.specs.declared.object.Object.{Object}
-use Rattle.driver_core.specs.Kinds.{number_of}
-use Rattle.driver_core.specs.Sound.{has_number}
+use Rattle.driver_objects.proofs.Cases.{true_or_false}
+use Rattle.driver_objects.proofs.OwnNumbers.{has_number_is}
+use Rattle.driver_objects.proofs.Lists.{some_passes}
 use Rattle.driver_core.specs.Stands.{Stands, by_place}
 use Rattle.driver_core.specs.declared.driver.Core.{Core}
-use Rattle.driver_core.proofs.Handles.{some_passes}
 use Rattle.driver_core.proofs.NamesOfQueues.{InQueue, live_is, named_places, places_named}
-use Rattle.driver_core.proofs.Presenting.{has_number_is, queue_from, queue_is}
-
-true_or_false : (b : Bool) → (b ≡ true) ⊎ (b ≡ false)
-true_or_false true = inl refl
-true_or_false false = inr refl
+use Rattle.driver_core.proofs.Presenting.{queue_from, queue_is}
 
 module _ (core : Core) (d : State) (stands : Stands core d) where
   -- A kept queue of this place names it.

@@ -11,19 +11,18 @@ use Rattle.driver_model.specs.Kept.{is_in_queue, live_queue, live_queues_of}
 use Rattle.driver_model.specs.Objects as model
 use Rattle.driver_model.specs.States.{State}
 use Rattle.driver_objects.specs.Kept.{kept_of, made_of}
+use Rattle.driver_objects.specs.Kinds.{holder_of}
 use Rattle.driver_objects.specs.declared.content.Content.{Content}
 use Rattle.driver_objects.specs.declared.content.Content.TheVariants as content
 use Rattle.driver_objects.specs.declared.content.PresentationQueue.{PresentationQueue}
 use Rattle.driver_objects.specs.declared.object.Object.{Object}
+use Rattle.driver_objects.proofs.Lists.{element_is, one_kept, some_passes}
 use Rattle.driver_objects.proofs.Searched.{place_is_one}
-use Rattle.driver_core.specs.Kinds.{holder_of}
 use Rattle.driver_core.specs.Sound.{is_surface}
 use Rattle.driver_core.specs.Stands.{IsContent, Stands, by_place, is_owed}
 use Rattle.driver_core.specs.declared.driver.Core.{Core}
-use Rattle.driver_core.proofs.Handles.{some_passes}
-use Rattle.driver_core.proofs.Lists.{element_is}
 use Rattle.driver_core.proofs.ModelKinds.{queue_is}
-use Rattle.driver_core.proofs.Named.{one_at, one_kept}
+use Rattle.driver_core.proofs.Named.{one_at}
 
 -- ---- one queue
 

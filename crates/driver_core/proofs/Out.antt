@@ -1,14 +1,11 @@
 -- Which surfaces jobs write, by what is kept of the jobs.
-use Rattle.std.proofs.Common.{◌≡◌, ℕ, ◌==◌, ◌&&◌, ◌||◌, Bool, false, List, [], ◌∷◌, map, refl, sym, ap, ◌∙◌, arith}
+use Rattle.std.proofs.Common.{◌≡◌, ℕ, ◌==◌, ◌&&◌, false, List, [], ◌∷◌, refl, sym, ap, ◌∙◌, arith}
 use Rattle.std.specs.List.{list_any}
 use Rattle.driver_model.specs.States.{Note, State, is_out}
+use Rattle.driver_objects.specs.declared.jobs.OutJob.{OutJob}
+use Rattle.driver_objects.proofs.Maps.{any_map}
 use Rattle.driver_core.specs.Stands.{Stands, is_ok, is_owed, told_by, told_of}
 use Rattle.driver_core.specs.declared.driver.Core.{Core}
-use Rattle.driver_core.specs.declared.driver.OutJob.{OutJob}
-
-any_map : {X Y : Type 0} (f : X → Y) (test : Y → Bool) (xs : List X) → list_any test (map f xs) ≡ list_any (λ x. test (f x)) xs
-any_map f test [] = refl
-any_map f test (x ∷ xs) = ap (λ b. test (f x) || b) (any_map f test xs)
 
 -- a surface is out where some job that is out has it as its target
 pub out_by_jobs : (core : Core) (d : State) → Stands core d → (place : ℕ) → list_any (λ (job : OutJob). job.target == place) core.jobs.items ≡ is_out d place

@@ -11,18 +11,19 @@ use Rattle.driver_model.specs.States.{Found, State, is_out}
 use Rattle.driver_model.specs.Surfaces.{output, output_bits}
 use Rattle.driver_model.specs.Waits.{FoundAnd}
 use Rattle.driver_model.specs.declared.numbers.TheConstants as number
+use Rattle.driver_objects.specs.Contents.{HasContent}
 use Rattle.driver_objects.specs.Kept.{kept_of}
+use Rattle.driver_objects.specs.Kinds.{is_output, kind_number}
 use Rattle.driver_objects.specs.Stored.{value_of}
 use Rattle.driver_objects.specs.declared.content.Content.{Content}
 use Rattle.driver_objects.specs.declared.content.Content.TheVariants as content
 use Rattle.driver_objects.specs.declared.content.OutputSurface.{OutputSurface}
 use Rattle.driver_objects.specs.declared.object.Object.{Object}
+use Rattle.driver_objects.proofs.Lists.{one_kept}
 use Rattle.driver_core.specs.Found.{FindsAt, HasPixels, IsFound}
-use Rattle.driver_core.specs.Kinds.{is_output, kind_number}
-use Rattle.driver_core.specs.Roles.{Fits, HasContent, IsLiveAt}
+use Rattle.driver_core.specs.Roles.{Fits, IsLiveAt}
 use Rattle.driver_core.specs.Stands.{IsContent, Stands, is_owed}
 use Rattle.driver_core.specs.declared.driver.Core.{Core}
-use Rattle.driver_core.proofs.Named.{one_kept}
 
 module _ (d : State) (surface count : ℕ) (on : Found model.OutputSurface) (names : output d surface ≡ Ok on) where
   pub pixels_of_no_size : (count == pixel_bytes on.value.size) ≡ false → output_bits d surface count ≡ Err BadSize

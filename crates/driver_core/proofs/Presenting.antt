@@ -13,26 +13,22 @@ use Rattle.driver_model.specs.Presented.{is_queued_at, is_visible_at, queue_in}
 use Rattle.driver_model.specs.States.{State}
 use Rattle.driver_model.proofs.Leading.{has_entry, is_visible_one}
 use Rattle.driver_objects.specs.Kept.{kept_of, made_of}
+use Rattle.driver_objects.specs.Kinds.{has_number, holder_of, kind_number, number_of}
 use Rattle.driver_objects.specs.declared.content.Content.{Content}
 use Rattle.driver_objects.specs.declared.content.Content.TheVariants as content
 use Rattle.driver_objects.specs.declared.content.PresentationQueue.{PresentationQueue}
 use Rattle.driver_objects.specs.declared.object.Object.{Object}
+use Rattle.driver_objects.proofs.Cases.{same_bool, true_or_false}
+use Rattle.driver_objects.proofs.OwnNumbers.{has_number_is}
+use Rattle.driver_objects.proofs.Lists.{element_is, one_kept, some_passes}
 use Rattle.driver_objects.proofs.Searched.{place_is_one}
-use Rattle.driver_core.specs.Kinds.{holder_of, kind_number, number_of}
-use Rattle.driver_core.specs.Sound.{has_number, is_surface}
+use Rattle.driver_core.specs.Sound.{is_surface}
 use Rattle.driver_core.specs.Stands.{IsContent, Stands, by_place, is_owed}
 use Rattle.driver_core.specs.declared.driver.Core.{Core}
 use Rattle.driver_core.proofs.DeadQueues.{dead_no_queue}
-use Rattle.driver_core.proofs.Handles.{some_passes}
-use Rattle.driver_core.proofs.Lists.{element_is}
-use Rattle.driver_core.proofs.Named.{kinds_same, one_at, one_kept}
+use Rattle.driver_core.proofs.Named.{kinds_same, one_at}
 
 -- ---- tests of lists
-
-one_bool : (a b : Bool) → (a ≡ true → b ≡ true) → (b ≡ true → a ≡ true) → a ≡ b
-one_bool true b there back = sym (there refl)
-one_bool false true there back = back refl
-one_bool false false there back = refl
 
 or_either : (a b : Bool) → (a || b) ≡ true → (a ≡ true) ⊎ (b ≡ true)
 or_either true b is = inl refl
@@ -41,12 +37,6 @@ or_either false b is = inr is
 or_second : (a b : Bool) → b ≡ true → (a || b) ≡ true
 or_second true b is = refl
 or_second false b is = is
-
-module _ {X : Type 0} (test : X → Bool) where
-  pub any_there : (xs : List X) (i : ℕ) (x : X) → slice_get xs i ≡ Some x → test x ≡ true → list_any test xs ≡ true
-  any_there [] i x at passes = absurd (none-some x at)
-  any_there (y ∷ xs) zero x at passes = ap (λ b. b || list_any test xs) (ap test (element_is y x at) ∙ passes)
-  any_there (y ∷ xs) (suc i) x at passes = or_second (test y) (list_any test xs) (any_there xs i x at passes)
 
 -- a queue among those that passes, where an empty one doesn't
 module _ (test : Queue Surface → Bool) (fails : test empty_queue ≡ false) where
@@ -130,16 +120,6 @@ is_queue_in (model.DecoderObject of) queue is = absurd (none-some queue is)
 is_queue_in (model.MixerObject of) queue is = absurd (none-some queue is)
 is_queue_in (model.QueueObject of) queue is = refl
 
-pub has_number_is : (number : ℕ) (object : Object) → has_number number object ≡ true → number_of object.content ≡ Some number
-has_number_is number object has = by_own (number_of object.content) has where
-  by_own : (own : Option ℕ) → option_map_or (λ n. n == number) own false ≡ true → own ≡ Some number
-  by_own None has = absurd (true≢false (sym has))
-  by_own (Some n) has = let same : n ≡ number = grind (arith, nat_tests, has) in ap Some same
-
-true_or_false : (b : Bool) → (b ≡ true) ⊎ (b ≡ false)
-true_or_false true = inl refl
-true_or_false false = inr refl
-
 module _ (core : Core) (d : State) (stands : Stands core d) where
   -- a queue that is kept is live, and is the state's
   pub record QueueAt (place : ℕ) (number : ℕ) : Type 0 where
@@ -213,7 +193,7 @@ module _ (core : Core) (d : State) (stands : Stands core d) where
         ]
 
     pub same_any : list_any kept_test core.queues ≡ list_any test (filter_map of d.objects)
-    same_any = one_bool (list_any kept_test core.queues) (list_any test (filter_map of d.objects)) to_state from_state
+    same_any = same_bool (list_any kept_test core.queues) (list_any test (filter_map of d.objects)) to_state from_state
 
   -- ---- one surface
 

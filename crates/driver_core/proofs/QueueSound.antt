@@ -1,25 +1,18 @@
 -- A queue is changed.
-use Rattle.std.proofs.Common.{◌≡◌, ◌≢◌, ◌⊎◌, inl, inr, ℕ, ◌<◌, ◌≤◌, true, true≢false, List, length, set, slice_get, Some, sym, ap, ◌∙◌, subst, arith, get_or-set_other, get_or-set_same}
+use Rattle.std.proofs.Common.{◌≡◌, ◌≢◌, ◌⊎◌, inl, inr, ℕ, ◌<◌, ◌≤◌, true, true≢false, List, length, set, slice_get, Some, sym, ap, ◌∙◌, subst, arith}
 use Rattle.std.specs.List.{list_any}
 use Rattle.std.proofs.Math.Logic.{∥∥₁_map}
 use Rattle.std.proofs.lemmas.List.{length-set}
-use Rattle.present_queue.specs.Queue.{Names, Queue, empty_queue, most_entries}
+use Rattle.present_queue.specs.Queue.{Names, Queue, most_entries}
 use Rattle.present_queue.specs.Queues.{Surface, queue_at}
+use Rattle.driver_objects.specs.Kinds.{has_number, number_of}
 use Rattle.driver_objects.specs.declared.object.Object.{Object}
-use Rattle.driver_core.specs.Kinds.{number_of}
-use Rattle.driver_core.specs.Sound.{IsSound, has_number, is_surface}
-use Rattle.driver_core.specs.declared.driver.OutJob.{OutJob}
-use Rattle.driver_core.proofs.AddSound.{any_at, has_number_is}
-
-either : (m n : ℕ) → (m ≡ n) ⊎ (m ≢ n)
-either m n = grind arith
-
-module _ (queues : List (Queue Surface)) (number : ℕ) (queue : Queue Surface) where
-  pub queue_set_same : number < length queues → queue_at (set queues number queue) number ≡ queue
-  queue_set_same within = get_or-set_same queues number queue empty_queue within
-
-  pub queue_set_other : (other : ℕ) → other ≢ number → queue_at (set queues number queue) other ≡ queue_at queues other
-  queue_set_other other apart = get_or-set_other queues number other queue empty_queue apart
+use Rattle.driver_objects.specs.declared.jobs.OutJob.{OutJob}
+use Rattle.driver_objects.proofs.Cases.{either}
+use Rattle.driver_objects.proofs.OwnNumbers.{number_has}
+use Rattle.driver_objects.proofs.Lists.{any_at}
+use Rattle.driver_objects.proofs.QueueLists.{queue_set_other, queue_set_same}
+use Rattle.driver_core.specs.Sound.{IsSound, is_surface}
 
 module _ (kept : List Object) (made : ℕ) (queues : List (Queue Surface)) (jobs : List OutJob) (sound : IsSound kept made queues jobs)
     (index : ℕ) (object : Object) (number : ℕ) (there : slice_get kept index ≡ Some object) (is : number_of object.content ≡ Some number) where
@@ -56,7 +49,7 @@ module _ (kept : List Object) (made : ℕ) (queues : List (Queue Surface)) (jobs
       numbers = sound.numbers;
       numbers_apart = sound.numbers_apart;
       unused = λ other none.
-          let apart : other ≢ number = λ e. true≢false (sym (any_at (has_number number) kept index object there (has_number_is number object is)) ∙ (ap (λ n. list_any (has_number n) kept) (sym e) ∙ none)) in
+          let apart : other ≢ number = λ e. true≢false (sym (any_at (has_number number) kept index object there (number_has number object is)) ∙ (ap (λ n. list_any (has_number n) kept) (sym e) ∙ none)) in
           queue_set_other queues number queue other apart ∙ sound.unused other none;
       holders = sound.holders;
       holders_apart = sound.holders_apart;

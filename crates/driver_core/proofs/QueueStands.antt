@@ -1,25 +1,27 @@
 -- A live queue is given other content, in what is kept and in the state.
-use Rattle.std.proofs.Common.{◌≡◌, ◌≢◌, ◌⊎◌, inl, inr, ℕ, ◌||◌, Bool, true, false, List, set, slice_get, Some, refl, sym, ap, ◌∙◌, subst, arith}
+use Rattle.std.proofs.Common.{◌≡◌, ◌≢◌, ◌⊎◌, inl, inr, ℕ, ◌||◌, true, List, set, slice_get, Some, refl, sym, ap, ◌∙◌, subst, arith}
 use Rattle.std.proofs.lemmas.Bool.Decides.{nat_tests}
 use Rattle.present_queue.specs.Queue.{Names, Queue, promised}
 use Rattle.present_queue.specs.Queues.{Surface, queue_at}
 use Rattle.driver_model.specs.Kept.{is_in_queue}
 use Rattle.driver_model.specs.Objects as model
 use Rattle.driver_model.specs.States.{State, with_content}
+use Rattle.driver_objects.specs.Kinds.{number_of}
 use Rattle.driver_objects.specs.declared.content.Content.TheVariants as content
 use Rattle.driver_objects.specs.declared.content.PresentationQueue.{PresentationQueue}
 use Rattle.driver_objects.specs.declared.object.Object.{Object}
+use Rattle.driver_objects.specs.declared.jobs.OutJob.{OutJob}
+use Rattle.driver_objects.proofs.Cases.{either, true_or_false}
+use Rattle.driver_objects.proofs.Lists.{element_is}
+use Rattle.driver_objects.proofs.QueueLists.{queue_set_other, queue_set_same}
 use Rattle.driver_core.specs.Covers.{Covers, IsAllNeeded, IsOf}
-use Rattle.driver_core.specs.Kinds.{number_of}
 use Rattle.driver_core.specs.Sound.{IsSound, is_surface}
 use Rattle.driver_core.specs.Stands.{IsContent, IsNeeded, by_place, is_owed}
-use Rattle.driver_core.specs.declared.driver.OutJob.{OutJob}
 use Rattle.driver_core.proofs.ContentStands.{get_changed_other, get_changed_same}
 use Rattle.driver_core.proofs.Covering.{covers_changed}
-use Rattle.driver_core.proofs.Lists.{element_is}
 use Rattle.driver_core.proofs.Named.{one_at}
 use Rattle.driver_core.proofs.NamesOfQueues.{InQueue, in_queue, named_places, places_named, queue_in}
-use Rattle.driver_core.proofs.QueueSound.{number_within, queue_set_other, queue_set_same}
+use Rattle.driver_core.proofs.QueueSound.{number_within}
 use Rattle.driver_core.proofs.StillContent.{content_still, queue_of}
 
 -- a live output surface that is kept
@@ -29,13 +31,6 @@ pub record IsLiveSurface (kept : List Object) (surface : Surface) : Type 0 where
   pub there : slice_get kept index ≡ Some object
   pub is : is_surface surface object ≡ true
   pub live : object.is_live ≡ true
-
-either : (m n : ℕ) → (m ≡ n) ⊎ (m ≢ n)
-either m n = grind arith
-
-true_or_false : (b : Bool) → (b ≡ true) ⊎ (b ≡ false)
-true_or_false true = inl refl
-true_or_false false = inr refl
 
 module _ (kept : List Object) (made : ℕ) (queues : List (Queue Surface)) (jobs : List OutJob) (sound : IsSound kept made queues jobs)
     (index : ℕ) (object : Object) (of_kept : PresentationQueue) (there : slice_get kept index ≡ Some object) (has : object.content ≡ content.Queue of_kept) where

@@ -12,22 +12,22 @@ use Rattle.driver_model.specs.States.{Found, State, named}
 use Rattle.driver_model.specs.declared.numbers.TheConstants as number
 use Rattle.driver_model.specs.declared.replies.PresentStatus.{PresentStatus}
 use Rattle.driver_model.specs.declared.replies.PresentStatus.TheVariants.{Idle, Queued, Visible}
+use Rattle.driver_objects.specs.Contents.{HasContent, HasOutput}
 use Rattle.driver_objects.specs.Kept.{kept_of}
+use Rattle.driver_objects.specs.Kinds.{holder_of, kind_number}
 use Rattle.driver_objects.specs.Listed.{IsOnly, called}
 use Rattle.driver_objects.specs.declared.content.Content.{Content}
 use Rattle.driver_objects.specs.declared.content.Content.TheVariants as content
 use Rattle.driver_objects.specs.declared.content.OutputSurface.{OutputSurface}
 use Rattle.driver_objects.specs.declared.object.Object.{Object}
+use Rattle.driver_objects.proofs.Lists.{one_kept}
 use Rattle.driver_core.specs.Found.{Finds}
-use Rattle.driver_core.specs.Kinds.{holder_of, kind_number}
 use Rattle.driver_core.specs.Looked.{IsFurther}
-use Rattle.driver_core.specs.Roles.{HasContent}
-use Rattle.driver_core.specs.Standing.{HasOutput, OfPlace, Presents, RefusesBoth}
+use Rattle.driver_core.specs.Standing.{OfPlace, Presents, RefusesBoth}
 use Rattle.driver_core.specs.Stands.{Stands}
 use Rattle.driver_core.specs.declared.driver.Core.{Core}
 use Rattle.driver_core.proofs.Handles.{called_kind, further_err, further_ok}
 use Rattle.driver_core.proofs.ModelKinds.{output_is, output_kind, output_other}
-use Rattle.driver_core.proofs.Named.{one_kept}
 use Rattle.driver_core.proofs.Presenting.{is_holder, queued_there, shown_there}
 
 output_by_kind : (what : Content) → kind_number what ≡ number.OUTPUT_SURFACE → (surface : OutputSurface) × (what ≡ content.Output surface)

@@ -9,8 +9,8 @@ use Rattle.driver_model.specs.Refusals.{Looked}
 use Rattle.driver_model.specs.States.{State, with_content}
 use Rattle.driver_model.specs.declared.numbers.TheConstants as number
 use Rattle.driver_objects.specs.Kept.{kept_of}
+use Rattle.driver_objects.specs.Kinds.{kind_number}
 use Rattle.driver_objects.specs.declared.object.Object.{Object}
-use Rattle.driver_core.specs.Kinds.{kind_number}
 use Rattle.driver_core.specs.Stands.{Stands, is_owed}
 use Rattle.driver_core.specs.declared.driver.Core.{Core}
 use Rattle.driver_core.proofs.ContentStands.{queues_changed}

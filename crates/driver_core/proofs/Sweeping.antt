@@ -1,5 +1,5 @@
 -- An object is destroyed, and then each destroyed object that no queue names any more is let go.
-use Rattle.std.proofs.Common.{◌≡◌, ◌≢◌, ◌⊎◌, inl, inr, ℕ, ◌||◌, Bool, true, false, true≢false, List, filter, set, slice_get, Some, refl, sym, ap, ◌∙◌, subst, arith}
+use Rattle.std.proofs.Common.{◌≡◌, ◌≢◌, inl, inr, ℕ, ◌||◌, true, false, true≢false, List, filter, set, slice_get, Some, refl, sym, ap, ◌∙◌, subst, arith}
 use Rattle.std.specs.List.{list_any}
 use Rattle.handle_table.specs.Name.{kind_of}
 use Rattle.present_queue.specs.Queue.{Names, Queue, empty_queue}
@@ -8,31 +8,22 @@ use Rattle.driver_model.specs.Kept.{is_in_queue}
 use Rattle.driver_model.specs.Objects as model
 use Rattle.driver_model.specs.States.{State, changed_at}
 use Rattle.driver_objects.specs.Kept.{kept_of, made_of}
+use Rattle.driver_objects.specs.Kinds.{has_number, holder_of, is_device, is_device_at, kind_number, number_of}
 use Rattle.driver_objects.specs.Listed.{destroyed}
+use Rattle.driver_objects.specs.Swept.{is_wanted}
 use Rattle.driver_objects.specs.declared.object.Object.{Object}
+use Rattle.driver_objects.proofs.Cases.{either, true_or_false}
+use Rattle.driver_objects.proofs.Filters.{filter_get, get_filter}
+use Rattle.driver_objects.proofs.Lists.{any_at, element_is, get_set, get_set_apart, get_set_same, one_kept, some_passes}
 use Rattle.driver_objects.proofs.Searched.{place_is_one}
+use Rattle.driver_objects.proofs.Wanted.{IsHeld, held_wanted, wanted_held}
 use Rattle.driver_core.specs.Covers.{Covers, IsAllNeeded, IsOf}
-use Rattle.driver_core.specs.Kinds.{holder_of, is_device, is_device_at, kind_number, number_of}
-use Rattle.driver_core.specs.Sound.{IsSound, has_number, is_surface}
+use Rattle.driver_core.specs.Sound.{IsSound, is_surface}
 use Rattle.driver_core.specs.Stands.{IsNeeded, Stands}
-use Rattle.driver_core.specs.Swept.{is_wanted}
 use Rattle.driver_core.specs.declared.driver.Core.{Core}
-use Rattle.driver_core.proofs.AddSound.{any_at}
 use Rattle.driver_core.proofs.ContentStands.{get_changed_other, get_changed_same}
 use Rattle.driver_core.proofs.Covering.{covers_of}
-use Rattle.driver_core.proofs.Filters.{filter_get, get_filter}
-use Rattle.driver_core.proofs.Handles.{some_passes}
-use Rattle.driver_core.proofs.Lists.{element_is, get_set, get_set_other, get_set_same}
-use Rattle.driver_core.proofs.Named.{one_kept}
 use Rattle.driver_core.proofs.Presenting.{holder_is, is_holder}
-use Rattle.driver_core.proofs.Wanted.{IsHeld, held_wanted, wanted_held}
-
-either : (m n : ℕ) → (m ≡ n) ⊎ (m ≢ n)
-either m n = grind arith
-
-true_or_false : (b : Bool) → (b ≡ true) ⊎ (b ≡ false)
-true_or_false true = inl refl
-true_or_false false = inr refl
 
 module _ (core : Core) (index : ℕ) (object : Object) (there : slice_get (kept_of core.objects) index ≡ Some object)
     (queues : List (Queue Surface)) (fewer : (number : ℕ) (surface : Surface) → Names (queue_at queues number) surface → Names (queue_at core.queues number) surface) where
@@ -91,7 +82,7 @@ module _ (core : Core) (index : ℕ) (object : Object) (there : slice_get (kept_
             let f = filter_get (is_wanted queues) without index (destroyed object) (get_set_same (kept_of core.objects) index object (destroyed object) there) (held_wanted queues (destroyed object) surface.holder number surface has named refl) in
             any_at (is_surface surface) swept f.0 (destroyed object) f.1 (subst (λ (x : Object). is_surface surface (destroyed x) ≡ true) (sym same) s.3)
         | inr apart ↦
-            let f = filter_get (is_wanted queues) without s.0 s.1 (get_set_other (kept_of core.objects) index s.0 (destroyed object) s.1 apart s.2) (held_wanted queues s.1 surface.holder number surface is.1 named refl) in
+            let f = filter_get (is_wanted queues) without s.0 s.1 (get_set_apart (kept_of core.objects) index s.0 (destroyed object) s.1 apart s.2) (held_wanted queues s.1 surface.holder number surface is.1 named refl) in
             any_at (is_surface surface) swept f.0 s.1 f.1 s.3
       ]
 
@@ -103,7 +94,7 @@ module _ (core : Core) (index : ℕ) (object : Object) (there : slice_get (kept_
         let live : s.1.is_live ≡ true = grind (arith, test) in
         let device : is_device s.1.content ≡ true = grind (arith, test) in
         let far : s.0 ≢ index = λ e. true≢false (sym device ∙ (ap (λ (x : Object). is_device x.content) (one_kept (kept_of core.objects) index s.1 object (subst (λ i. slice_get (kept_of core.objects) i ≡ Some s.1) e s.2) there) ∙ no_device)) in
-        let f = filter_get (is_wanted queues) without s.0 s.1 (get_set_other (kept_of core.objects) index s.0 (destroyed object) s.1 far s.2) (grind (arith, live)) in
+        let f = filter_get (is_wanted queues) without s.0 s.1 (get_set_apart (kept_of core.objects) index s.0 (destroyed object) s.1 far s.2) (grind (arith, live)) in
         any_at (is_device_at place) swept f.0 s.1 f.1 s.3
 
     pub swept_sound : ((i j : ℕ) (a b : Object) → slice_get swept i ≡ Some a → slice_get swept j ≡ Some b → a.place ≡ b.place → j ≡ i)
@@ -218,5 +209,5 @@ module _ (core : Core) (index : ℕ) (object : Object) (there : slice_get (kept_
                   | inl live ↦ let lives : n.1.is_live ≡ true = k.3.live ∙ (ap (λ (x : model.Object). x.is_live) same ∙ live) in grind (arith, lives)
                   | inr dead ↦ named_wanted n.0 n.1 n.2 (subst (λ p. is_in_queue new p ≡ true) (sym n.3) (sym (ap (λ b. b || is_in_queue new place) dead) ∙ needed)) n.1 refl
                 ] in
-                let f = filter_get (is_wanted queues) without n.0 n.1 (get_set_other (kept_of core.objects) index n.0 (destroyed object) n.1 far n.2) wanted in
+                let f = filter_get (is_wanted queues) without n.0 n.1 (get_set_apart (kept_of core.objects) index n.0 (destroyed object) n.1 far n.2) wanted in
                 (f.0, n.1, f.1, n.3)

@@ -6,12 +6,12 @@ use Rattle.driver_model.specs.Refusals.{Looked, ◌>>=◌, in_use}
 use Rattle.driver_model.specs.States.{Found, State, named}
 use Rattle.driver_model.specs.Wishes.{first_wish_from, wish_holds}
 use Rattle.driver_model.specs.declared.calls.Wish.{Wish}
+use Rattle.driver_objects.specs.Contents.{HasContent}
 use Rattle.driver_objects.specs.Kept.{kept_of}
+use Rattle.driver_objects.specs.Kinds.{number_of}
 use Rattle.driver_objects.specs.declared.content.Content.TheVariants as content
 use Rattle.driver_objects.specs.declared.content.PresentationQueue.{PresentationQueue}
-use Rattle.driver_core.specs.Kinds.{number_of}
 use Rattle.driver_core.specs.Looked.{IsInUse}
-use Rattle.driver_core.specs.Roles.{HasContent}
 use Rattle.driver_core.specs.Standing.{OfPlace}
 use Rattle.driver_core.specs.Stands.{Stands}
 use Rattle.driver_core.specs.declared.driver.Core.{Core}

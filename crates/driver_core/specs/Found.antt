@@ -5,6 +5,7 @@ use Rattle.vd_status.specs.declared.refusal.Refusal.{Refusal}
 use Rattle.driver_model.specs.Objects as model
 use Rattle.driver_model.specs.Refusals.{in_use}
 use Rattle.driver_model.specs.States.{Found, State, named}
+use Rattle.driver_objects.specs.Contents.{HasContent}
 use Rattle.driver_objects.specs.Kept.{kept_of}
 use Rattle.driver_objects.specs.Stored.{value_of}
 use Rattle.driver_objects.specs.declared.content.Content.{Content}
@@ -12,7 +13,6 @@ use Rattle.driver_objects.specs.declared.content.Content.TheVariants as content
 use Rattle.driver_objects.specs.declared.content.OutputSurface.{OutputSurface}
 use Rattle.driver_objects.specs.declared.content.VideoSurface.{VideoSurface}
 use Rattle.driver_objects.specs.declared.object.Object.{Object}
-use Rattle.driver_core.specs.Roles.{HasContent}
 use Rattle.driver_core.specs.Stands.{IsContent, Stands, is_owed}
 use Rattle.driver_core.specs.declared.driver.Core.{Core}
 

@@ -2,19 +2,10 @@
 use Rattle.std.specs.Prelude.{◌≡◌, ◌≢◌, ◌⊎◌, ℕ, Bool, true, false, List, slice_get, Some, None, Result, Ok, Err}
 use Rattle.vd_status.specs.declared.refusal.Refusal.{Refusal}
 use Rattle.vd_status.specs.declared.refusal.Refusal.TheVariants.{DeviceMismatch, InvalidHandle, Preempted}
+use Rattle.driver_objects.specs.Contents.{HasDevice}
 use Rattle.driver_objects.specs.Listed.{IsOnly, called}
-use Rattle.driver_objects.specs.declared.content.Content.TheVariants as content
 use Rattle.driver_objects.specs.declared.content.Device.{Device}
 use Rattle.driver_objects.specs.declared.object.Object.{Object}
-
--- a live device with this place among all objects ever made has this
-pub record HasDevice (kept : List Object) (place : ℕ) (device : Device) : Type 0 where
-  pub index : ℕ
-  pub object : Object
-  pub stands : slice_get kept index ≡ Some object
-  pub live : object.is_live ≡ true
-  pub at_place : object.place ≡ place
-  pub has : object.content ≡ content.Device device
 
 -- the device of the object at this place of the list is preempted, or isn't
 pub record IsPreempted (kept : List Object) (index : ℕ) (is_preempted : Bool) : Type 0 where

@@ -4,6 +4,8 @@ use Rattle.std.specs.List.{list_any}
 use Rattle.cb_types.specs.SizeMbs.{IsWithinLimits}
 use Rattle.vd_plane.specs.Picture.{HasSize}
 use Rattle.driver_model.specs.Sizes.{is_profile, is_rgba_format, pixel_bytes}
+use Rattle.driver_objects.specs.Contents.{HasContent}
+use Rattle.driver_objects.specs.Kinds.{has_number, holder_of, is_device, is_device_at, kind_number, number_of}
 use Rattle.driver_objects.specs.Stored.{value_of}
 use Rattle.driver_objects.specs.declared.content.Content.{Content}
 use Rattle.driver_objects.specs.declared.content.Content.TheVariants as content
@@ -12,8 +14,6 @@ use Rattle.driver_objects.specs.declared.content.OutputSurface.{OutputSurface}
 use Rattle.driver_objects.specs.declared.content.VideoMixer.{VideoMixer}
 use Rattle.driver_objects.specs.declared.content.VideoSurface.{VideoSurface}
 use Rattle.driver_objects.specs.declared.object.Object.{Object}
-use Rattle.driver_core.specs.Kinds.{holder_of, is_device, is_device_at, kind_number, number_of}
-use Rattle.driver_core.specs.Sound.{has_number}
 
 -- the new content is of the old one's kind, and has its place among the queues
 pub record SameRole (old new : Content) : Type 0 where
@@ -29,12 +29,6 @@ pub record Fits (what : Content) : Type 0 where
       → IsWithinLimits surface.size × (length (value_of surface.pixels).items ≡ pixel_bytes surface.size) × (is_rgba_format surface.format ≡ true)
   pub decoder : (decoder : Decoder) → what ≡ content.Decoder decoder → IsWithinLimits decoder.size × (decoder.max_references ≤ 16) × (is_profile decoder.profile ≡ true)
   pub mixer : (mixer : VideoMixer) → what ≡ content.Mixer mixer → IsWithinLimits mixer.size
-
--- the object at this place of the list has this content
-pub record HasContent (kept : List Object) (index : ℕ) (what : Content) : Type 0 where
-  pub object : Object
-  pub there : slice_get kept index ≡ Some object
-  pub has : object.content ≡ what
 
 -- the object at this place of the list is live, and of the kind
 pub record IsLiveAt (is_kind : Content → Bool) (kept : List Object) (index : ℕ) : Type 0 where

@@ -8,6 +8,7 @@ use Rattle.present_queue.specs.Queue.{Names, Queue, empty_queue}
 use Rattle.present_queue.specs.Queues.{IsWithinLimits as AreWithinLimits, Surface, queue_at}
 use Rattle.driver_model.specs.Sizes.{is_profile, is_rgba_format, pixel_bytes}
 use Rattle.vd_plane.specs.Picture.{HasSize}
+use Rattle.driver_objects.specs.Kinds.{has_number, holder_of, is_device, is_device_at, kind_number, number_of}
 use Rattle.driver_objects.specs.Stored.{value_of}
 use Rattle.driver_objects.specs.declared.content.Content.TheVariants as content
 use Rattle.driver_objects.specs.declared.content.Decoder.{Decoder}
@@ -15,16 +16,11 @@ use Rattle.driver_objects.specs.declared.content.OutputSurface.{OutputSurface}
 use Rattle.driver_objects.specs.declared.content.VideoMixer.{VideoMixer}
 use Rattle.driver_objects.specs.declared.content.VideoSurface.{VideoSurface}
 use Rattle.driver_objects.specs.declared.object.Object.{Object}
-use Rattle.driver_core.specs.Kinds.{holder_of, is_device, is_device_at, kind_number, number_of}
-use Rattle.driver_core.specs.declared.driver.OutJob.{OutJob}
+use Rattle.driver_objects.specs.declared.jobs.OutJob.{OutJob}
 
 -- The object is the output surface that a queue names so: by its place, and by its holder.
 abbrev pub is_surface : Surface → Object → Bool
 is_surface surface object = object.place == surface.object && option_map_or (λ holder. holder == surface.holder) (holder_of object.content) false
-
--- the object is the queue of this number
-abbrev pub has_number : ℕ → Object → Bool
-has_number number object = option_map_or (λ own. own == number) (number_of object.content) false
 
 pub record IsSound (kept : List Object) (made : ℕ) (queues : List (Queue Surface)) (jobs : List OutJob) : Type 0 where
   -- a name says its object's kind

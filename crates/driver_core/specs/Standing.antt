@@ -1,19 +1,12 @@
 -- How output surfaces that are kept stand to the queues. No public clause cites this module.
-use Rattle.std.specs.Prelude.{◌≡◌, ℕ, List, slice_get, Some, Ok, Err}
+use Rattle.std.specs.Prelude.{◌≡◌, ℕ, slice_get, Some, Ok, Err}
 use Rattle.vd_status.specs.declared.refusal.Refusal.{Refusal}
 use Rattle.driver_model.specs.Queues.{QueueAndSurface, presented}
 use Rattle.driver_model.specs.States.{State}
 use Rattle.driver_objects.specs.Kept.{kept_of}
-use Rattle.driver_objects.specs.declared.content.Content.TheVariants as content
-use Rattle.driver_objects.specs.declared.content.OutputSurface.{OutputSurface}
 use Rattle.driver_objects.specs.declared.object.Object.{Object}
-use Rattle.driver_core.specs.Roles.{HasContent}
 use Rattle.driver_core.specs.Stands.{Stands}
 use Rattle.driver_core.specs.declared.driver.Core.{Core}
-
--- The object at this place of the list is an output surface.
-abbrev pub HasOutput : List Object → ℕ → Type 0
-HasOutput kept index = (surface : OutputSurface) × HasContent kept index (content.Output surface)
 
 module _ (core : Core) where
   -- Two handles name, in this state, a queue with this place among all objects ever made, and the output surface of its device that

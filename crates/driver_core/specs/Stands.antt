@@ -9,14 +9,14 @@ use Rattle.driver_model.specs.Kept.{is_in_queue}
 use Rattle.driver_model.specs.Objects as model
 use Rattle.driver_model.specs.Presented.{queue_in}
 use Rattle.driver_model.specs.States.{Note, State}
+use Rattle.driver_objects.specs.Contents.{flip_of}
 use Rattle.driver_objects.specs.Kept.{IsGiven, kept_of, made_of}
 use Rattle.driver_objects.specs.Stored.{value_of}
 use Rattle.driver_objects.specs.declared.content.Content.{Content}
 use Rattle.driver_objects.specs.declared.content.Content.TheVariants as content
-use Rattle.driver_objects.specs.declared.content.LastFlip.{LastFlip}
 use Rattle.driver_objects.specs.declared.object.Object.{Object}
+use Rattle.driver_objects.specs.declared.jobs.OutJob.{OutJob}
 use Rattle.driver_core.specs.declared.driver.Core.{Core}
-use Rattle.driver_core.specs.declared.driver.OutJob.{OutJob}
 
 -- ---- samples that a job owes
 
@@ -37,9 +37,6 @@ by_place queue = record {
   visible = option_map (λ surface. surface.object) queue.visible;
   promise = queue.promise;
 }
-
-abbrev pub flip_of : LastFlip → model.LastFlip
-flip_of flip = record { queue = flip.queue; time = flip.time }
 
 -- What is kept of an object is what it has. Samples and bytes that a job owes aren't there yet.
 abbrev pub IsContent : List (Queue Surface) → (owed : Bool) → model.Content → Content → Type 0

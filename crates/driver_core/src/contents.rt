@@ -1,10 +1,11 @@
 // Objects of known kinds: what handles name, and what they have.
 ghost use Rattle.std.specs.Prelude.{IfOk, IfErr};
 ghost use Rattle.driver_model.specs.Objects.{DecoderObject, MixerObject, VideoObject, as_decoder, as_mixer, as_video};
+ghost use Rattle.driver_objects.specs.Contents.{HasContent};
 ghost use Rattle.driver_objects.specs.Kept.{kept_of};
+ghost use Rattle.driver_objects.specs.Kinds.{is_decoder, is_mixer, is_video};
 ghost use Rattle.driver_core.specs.Found.{FindsAt, Refuses};
-ghost use Rattle.driver_core.specs.Kinds.{is_decoder, is_mixer, is_video};
-ghost use Rattle.driver_core.specs.Roles.{HasContent, IsLiveAt};
+ghost use Rattle.driver_core.specs.Roles.{IsLiveAt};
 
 use crate::driver::Core;
 use driver_model::{DECODER, VIDEO_MIXER, VIDEO_SURFACE};

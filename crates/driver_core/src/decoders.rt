@@ -6,12 +6,8 @@ ghost use Rattle.driver_core.specs.Answered.{Calls};
 
 use crate::answer::CoreAnswer;
 use crate::driver::Core;
-use crate::sizes::size_for;
-use cb_types::MAX_PICTURE_MBS;
-use driver_model::{
-    Answer, CONSTRAINED_BASELINE, Call, Capabilities, DECODER, MAX_REFERENCES, MAX_SIDE,
-    WEIGHTED_BASELINE,
-};
+use driver_model::{Answer, Call, Capabilities, DECODER, MAX_REFERENCES};
+use driver_objects::arguments::{capabilities, is_profile, size_for};
 use driver_objects::{Content, Decoder};
 use std::alloc::Global;
 use vd_status::Refusal;
@@ -81,32 +77,6 @@ impl Core {
                 CoreAnswer::Now(Ok(()))
             }
             Err(refusal) => CoreAnswer::Now(Err(refusal)),
-        }
-    }
-}
-
-fn is_profile(profile: u32) -> bool
-    ensures { result ≡ is_profile profile }
-{
-    profile == CONSTRAINED_BASELINE || profile == WEIGHTED_BASELINE
-}
-
-fn capabilities(profile: u32) -> Capabilities
-    ensures { result ≡ capabilities profile }
-{
-    if is_profile(profile) {
-        Capabilities {
-            supported: true,
-            max_macroblocks: MAX_PICTURE_MBS,
-            max_width: MAX_SIDE,
-            max_height: MAX_SIDE,
-        }
-    } else {
-        Capabilities {
-            supported: false,
-            max_macroblocks: 0,
-            max_width: 0,
-            max_height: 0,
         }
     }
 }

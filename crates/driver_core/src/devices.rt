@@ -1,14 +1,12 @@
 // Devices (vdpau_x11.h, VdpDeviceCreateX11; vdpau.h, VdpDeviceDestroy and VdpPreemptionCallback).
 ghost use Rattle.std.specs.Prelude.{◌≡◌, ◌&&◌, count_by};
+ghost use Rattle.driver_objects.specs.Kinds.{is_device};
 ghost use Rattle.driver_core.specs.Answered.{Calls};
-ghost use Rattle.driver_core.specs.Kinds.{is_device};
 
 use crate::answer::CoreAnswer;
-use crate::device_ends::destroy_all;
 use crate::driver::Core;
-use crate::sweeps::sweep;
 use driver_model::{Answer, Call, DEVICE, MAX_DEVICES};
-use driver_objects::{Content, Device, Object};
+use driver_objects::{Content, Device, count_devices, destroy_all, sweep};
 use std::alloc::Global;
 use vd_status::Refusal;
 
@@ -64,17 +62,4 @@ impl Core {
             Err(refusal) => CoreAnswer::Now(Err(refusal)),
         }
     }
-}
-
-// How many of them are live devices.
-fn count_devices(kept: &[Object]) -> usize
-    ensures { result ≡ count_by (λ object. object.is_live && is_device object.content) kept.now }
-{
-    let mut devices = 0;
-    for object in kept {
-        if object.is_live && matches!(object.content, Content::Device(_)) {
-            devices += 1;
-        }
-    }
-    devices
 }

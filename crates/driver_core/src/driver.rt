@@ -3,15 +3,9 @@ ghost use Rattle.driver_objects.specs.Kept.{kept_of, made_of};
 ghost use Rattle.driver_core.specs.Sound.{IsSound};
 
 use driver_objects::Objects;
+use driver_objects::jobs::OutJob;
 use present_queue::Queues;
 use std::alloc::{AllocError, Global};
-
-/// A job that is out: its number, by which its end finds it, and the place of the object that it writes.
-#[derive(Clone, Copy)]
-pub struct OutJob {
-    pub number: u64,
-    pub target: u64,
-}
 
 /// The driver for one caller.
 #[derive(Drop)]

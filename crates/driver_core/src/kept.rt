@@ -1,12 +1,12 @@
 // How much a driver keeps.
 ghost use Rattle.std.specs.Prelude.{◌≡◌, count_by};
+ghost use Rattle.driver_objects.specs.Counted.{has_picture};
 ghost use Rattle.driver_core.specs.Answered.{Calls};
-ghost use Rattle.driver_core.specs.Counted.{has_picture};
 
 use crate::answer::CoreAnswer;
 use crate::driver::Core;
 use driver_model::{Answer, Call, KeptCounts};
-use driver_objects::{Content, Object};
+use driver_objects::count_surfaces;
 
 impl Core {
     /// How many video and output surfaces and how many entries of presentation queues are kept. A destroyed
@@ -19,17 +19,4 @@ impl Core {
             entries: self.queues.linked(),
         }))
     }
-}
-
-// How many of them are video or output surfaces.
-fn count_surfaces(kept: &[Object]) -> usize
-    ensures { result ≡ count_by (λ object. has_picture object.content) kept.now }
-{
-    let mut surfaces = 0;
-    for object in kept {
-        if matches!(object.content, Content::Video(_) | Content::Output(_)) {
-            surfaces += 1;
-        }
-    }
-    surfaces
 }

@@ -6,22 +6,29 @@
 #![tactic(auto)]
 
 mod answer;
+mod clock;
 mod contents;
 mod decoders;
-mod device_ends;
 mod devices;
 mod driver;
+mod gives;
+mod jobs;
 mod kept;
 mod looks;
 mod mixers;
+mod mixes;
 mod output_surfaces;
 mod queues;
-mod sizes;
+mod references;
+mod renders;
+mod samples;
 mod status;
-mod sweeps;
 mod video_surfaces;
 mod wishes;
 mod writes;
 
-pub use answer::CoreAnswer;
+pub use answer::{CoreAnswer, CoreBegin};
 pub use driver::Core;
+pub use driver_jobs::{CoreMix, CoreMixDone, CoreRender, CoreRenderDone};
+pub use driver_objects::{Flip, Flips, Pixels};
+pub use submission::Submission;

@@ -3,15 +3,17 @@ ghost use Rattle.std.specs.Prelude.{◌≡◌, ◌<◌, ◌==◌, true, length, 
 ghost use Rattle.std.specs.List.{list_any};
 ghost use Rattle.driver_model.specs.Objects.{DeviceObject, as_device};
 ghost use Rattle.driver_model.specs.States.{State, is_out};
+ghost use Rattle.driver_objects.specs.Contents.{HasContent};
 ghost use Rattle.driver_objects.specs.Kept.{kept_of};
+ghost use Rattle.driver_objects.specs.Kinds.{is_device, is_device_at};
 ghost use Rattle.driver_core.specs.Found.{Finds, IsOn, Refuses};
-ghost use Rattle.driver_core.specs.Kinds.{is_device, is_device_at};
-ghost use Rattle.driver_core.specs.Looked.{HasDevice, IsFurther, IsInUse};
-ghost use Rattle.driver_core.specs.Roles.{HasContent};
+ghost use Rattle.driver_core.specs.Looked.{IsFurther, IsInUse};
 ghost use Rattle.driver_core.specs.Stands.{Stands};
 
-use crate::driver::{Core, OutJob};
+use crate::driver::Core;
 use driver_model::DEVICE;
+use driver_objects::jobs::writes;
+use driver_objects::kinds::{device_at, device_in};
 use driver_objects::{Content, Device, Object};
 use vd_status::Refusal;
 
@@ -24,7 +26,7 @@ impl Core {
         let Some(index) = self.objects.find(kind, name) else {
             return Err(Refusal::InvalidHandle { arg });
         };
-        let device = self.device_at(self.objects.kept()[index].device);
+        let device = device_at(&self.objects, self.objects.kept()[index].device);
         if device.is_preempted {
             return Err(Refusal::Preempted);
         }
@@ -49,17 +51,6 @@ impl Core {
             return Err(Refusal::DeviceMismatch { arg });
         }
         Ok(index)
-    }
-
-    // What the live device with this place among all objects ever made has.
-    pub(crate) fn device_at(&self, place: u64) -> Device
-        requires { list_any (is_device_at place) (kept_of self.now.objects) ≡ true }
-        ensures { HasDevice (kept_of self.now.objects) place result }
-    {
-        match self.objects.at(place) {
-            Some(index) => device_in(&self.objects.kept()[index].content),
-            None => unreachable!(),
-        }
     }
 
     // One of the kept objects.
@@ -108,21 +99,4 @@ impl Core {
     {
         writes(&self.jobs, place)
     }
-}
-
-// What a device has.
-fn device_in(content: &Content) -> Device
-    requires { is_device content.now ≡ true }
-    ensures { content.now ≡ Content.Device result }
-{
-    match content {
-        Content::Device(device) => *device,
-        _ => unreachable!(),
-    }
-}
-// Whether one of these jobs writes the object with this place.
-fn writes(jobs: &[OutJob], place: u64) -> bool
-    ensures { result ≡ list_any (λ job. job.target == place) jobs.now }
-{
-    jobs.iter().any(|job| job.target == place)
 }

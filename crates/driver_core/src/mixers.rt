@@ -3,8 +3,8 @@ ghost use Rattle.driver_core.specs.Answered.{Calls};
 
 use crate::answer::CoreAnswer;
 use crate::driver::Core;
-use crate::sizes::size_for;
 use driver_model::{Answer, Call, VIDEO_MIXER};
+use driver_objects::arguments::size_for;
 use driver_objects::{Content, VideoMixer};
 use mixer::DEFAULT_MATRIX;
 use std::alloc::Global;

@@ -6,26 +6,21 @@ ghost use Rattle.driver_model.specs.Objects.{OutputObject, as_output};
 ghost use Rattle.driver_model.specs.Sizes.{is_rgba_format, pixel_bytes};
 ghost use Rattle.driver_model.specs.States.{State};
 ghost use Rattle.driver_model.specs.Surfaces.{output_bits};
+ghost use Rattle.driver_objects.specs.Contents.{HasContent};
 ghost use Rattle.driver_objects.specs.Kept.{kept_of};
+ghost use Rattle.driver_objects.specs.Kinds.{has_own_holder, holder_of, is_output};
 ghost use Rattle.driver_core.specs.Answered.{Calls, UnlessDone};
 ghost use Rattle.driver_core.specs.Found.{FindsAt, HasPixels, Refuses};
-ghost use Rattle.driver_core.specs.Kinds.{has_own_holder, holder_of, is_output};
-ghost use Rattle.driver_core.specs.Roles.{HasContent, IsLiveAt};
+ghost use Rattle.driver_core.specs.Roles.{IsLiveAt};
 ghost use Rattle.driver_core.specs.Stands.{Stands};
 
 use crate::answer::CoreAnswer;
 use crate::driver::Core;
-use crate::sizes::size_for;
-use crate::sweeps::sweep;
-use cb_types::SizeMbs;
 use driver_model::{Answer, Call, OUTPUT_SURFACE};
-use driver_objects::{Content, Object, OutputSurface, Stored};
-use mixer::{B8G8R8A8, R8G8B8A8};
+use driver_objects::arguments::{is_rgba_format, pixel_bytes, size_for};
+use driver_objects::{Content, OutputSurface, Stored, free_holder, sweep};
 use std::alloc::Global;
 use vd_status::Refusal;
-
-// So many numbers for surfaces the presentation queues have.
-const HOLDERS: u32 = 5_184;
 
 impl Core {
     /// Makes an output surface of this format and these sides in pixels, which are rounded up to whole macroblocks
@@ -173,42 +168,4 @@ impl Core {
             _ => unreachable!(),
         }
     }
-}
-
-// Whether pixels may have this format.
-fn is_rgba_format(format: u32) -> bool
-    ensures { result ≡ is_rgba_format format }
-{
-    format == B8G8R8A8 || format == R8G8B8A8
-}
-
-// How many bytes the pixels of a surface take, four each.
-fn pixel_bytes(size: SizeMbs) -> usize
-    requires { IsWithinLimits size }
-    ensures { result ≡ pixel_bytes size }
-{
-    4 * (size.luma_width() as usize * size.luma_height() as usize)
-}
-
-// A holder that no surface has.
-fn free_holder(kept: &[Object]) -> Option<u32>
-    ensures free { IfSome result (λ holder. (holder < 5184) × ((i : ℕ) (object : Object) → slice_get kept.now i ≡ Some object → holder_of object.content ≡ Some holder → ⊥)) }
-    ensures none { IfNone result ((holder : ℕ) → holder < 5184 → list_any (has_own_holder holder) kept.now ≡ true) }
-{
-    for holder in 0..HOLDERS {
-        if !is_holder(kept, holder) {
-            return Some(holder);
-        }
-    }
-    None
-}
-
-// Whether a surface has this holder.
-fn is_holder(kept: &[Object], holder: u32) -> bool
-    ensures { result ≡ list_any (has_own_holder holder) kept.now }
-{
-    kept.iter().any(|object| match &object.content {
-        Content::Output(surface) => surface.holder == holder,
-        _ => false,
-    })
 }

@@ -2,19 +2,18 @@
 ghost use Rattle.std.specs.Prelude.{◌≡◌, ℕ, ◌<◌, true, false, Some, IfOk, IfErr, IfSome, IfNone};
 ghost use Rattle.std.specs.List.{list_any};
 ghost use Rattle.driver_model.specs.Objects.{QueueObject, as_queue};
+ghost use Rattle.driver_objects.specs.Contents.{HasContent};
 ghost use Rattle.driver_objects.specs.Kept.{kept_of};
+ghost use Rattle.driver_objects.specs.Kinds.{has_number, holder_of, is_output, is_queue};
 ghost use Rattle.driver_objects.specs.Listed.{HasObjectAt};
 ghost use Rattle.driver_core.specs.Answered.{Calls};
 ghost use Rattle.driver_core.specs.Found.{Finds, Refuses};
-ghost use Rattle.driver_core.specs.Kinds.{holder_of, is_output, is_queue};
-ghost use Rattle.driver_core.specs.Roles.{HasContent};
-ghost use Rattle.driver_core.specs.Sound.{has_number};
 
 use crate::answer::CoreAnswer;
 use crate::driver::Core;
-use crate::sweeps::sweep;
-use driver_model::{Answer, Call, MAX_QUEUES, OUTPUT_SURFACE, PRESENTATION_QUEUE};
-use driver_objects::{Content, Object, PresentationQueue};
+use driver_model::{Answer, Call, OUTPUT_SURFACE, PRESENTATION_QUEUE};
+use driver_objects::kinds::{device_at, holder_in, queue_in};
+use driver_objects::{Content, PresentationQueue, free_queue_number, sweep};
 use present_queue::Entry;
 use std::alloc::Global;
 use vd_status::Refusal;
@@ -33,7 +32,7 @@ impl Core {
         ensures { Calls self.old self.new (Call.QueueCreate device window) Answer.Name (CoreAnswer.Now result) }
     {
         let on = self.on_device(device)?;
-        let Some(number) = free_number(self.objects.kept()) else {
+        let Some(number) = free_queue_number(self.objects.kept()) else {
             return Err(Refusal::HandlesFull {
                 live: self.objects.live(),
                 given: self.objects.made(),
@@ -65,7 +64,7 @@ impl Core {
     {
         match self.queue(0, queue) {
             Ok((index, _)) => {
-                let device = self.device_at(self.objects.kept()[index].device);
+                let device = device_at(&self.objects, self.objects.kept()[index].device);
                 CoreAnswer::Now(Ok(device.time))
             }
             Err(refusal) => CoreAnswer::Now(Err(refusal)),
@@ -122,49 +121,4 @@ impl Core {
             Err(refusal) => Err(refusal),
         }
     }
-}
-
-// What a queue has.
-fn queue_in(content: &Content) -> PresentationQueue
-    requires { is_queue content.now ≡ true }
-    ensures { content.now ≡ Content.Queue result }
-{
-    match content {
-        Content::Queue(queue) => *queue,
-        _ => unreachable!(),
-    }
-}
-
-// The holder of an output surface.
-fn holder_in(content: &Content) -> u32
-    requires { is_output content.now ≡ true }
-    ensures { holder_of content.now ≡ Some result }
-{
-    match content {
-        Content::Output(surface) => surface.holder,
-        _ => unreachable!(),
-    }
-}
-
-// A number that no queue has.
-fn free_number(kept: &[Object]) -> Option<u32>
-    ensures free { IfSome result (λ number. (number < 64) × (list_any (has_number number) kept.now ≡ false)) }
-    ensures none { IfNone result ((number : ℕ) → number < 64 → list_any (has_number number) kept.now ≡ true) }
-{
-    for number in 0..MAX_QUEUES {
-        if !is_number(kept, number) {
-            return Some(number);
-        }
-    }
-    None
-}
-
-// Whether a queue has this number.
-fn is_number(kept: &[Object], number: u32) -> bool
-    ensures { result ≡ list_any (has_number number) kept.now }
-{
-    kept.iter().any(|object| match object.content {
-        Content::Queue(queue) => queue.number == number,
-        _ => false,
-    })
 }

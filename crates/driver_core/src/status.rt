@@ -3,16 +3,16 @@ ghost use Rattle.std.specs.Prelude.{◌≡◌, IfErr, IfOk, option_map};
 ghost use Rattle.std.specs.Option.{option_map_or};
 ghost use Rattle.driver_model.specs.Presented.{first_time, is_idle_at, status_at, time_if_on};
 ghost use Rattle.driver_model.specs.declared.numbers.TheConstants as number;
+ghost use Rattle.driver_objects.specs.Contents.{HasOutput, flip_of};
 ghost use Rattle.driver_objects.specs.Kept.{kept_of};
+ghost use Rattle.driver_objects.specs.Kinds.{kind_number};
 ghost use Rattle.driver_core.specs.Answered.{Calls};
-ghost use Rattle.driver_core.specs.Kinds.{kind_number};
-ghost use Rattle.driver_core.specs.Standing.{HasOutput, OfPlace, Presents, RefusesBoth};
-ghost use Rattle.driver_core.specs.Stands.{flip_of};
+ghost use Rattle.driver_core.specs.Standing.{OfPlace, Presents, RefusesBoth};
 
 use crate::answer::CoreAnswer;
 use crate::driver::Core;
 use driver_model::{Answer, Call, OUTPUT_SURFACE, PresentStatus, Shown};
-use driver_objects::{Content, LastFlip, OutputSurface};
+use driver_objects::kinds::{output_in, time_on};
 use vd_status::Refusal;
 
 impl Core {
@@ -90,26 +90,5 @@ impl Core {
         ensures { OfPlace self.now index (λ d place. result ≡ first_time d queue place) }
     {
         time_on(output_in(self.content(index)).last_flip, queue)
-    }
-}
-
-// When this queue flipped to a surface last, by the surface's latest flip.
-fn time_on(last_flip: Option<LastFlip>, queue: u64) -> u64
-    ensures { result ≡ option_map_or (time_if_on queue) (option_map flip_of last_flip) 0 }
-{
-    match last_flip {
-        Some(flip) if flip.queue == queue => flip.time,
-        _ => 0,
-    }
-}
-
-// What an output surface has.
-fn output_in(content: &Content) -> &OutputSurface
-    requires { kind_number content.now ≡ number.OUTPUT_SURFACE }
-    ensures { content.now ≡ Content.Output result.now }
-{
-    match content {
-        Content::Output(surface) => surface,
-        _ => unreachable!(),
     }
 }

@@ -5,17 +5,16 @@ ghost use Rattle.driver_model.specs.Sizes.{is_ycbcr_format};
 ghost use Rattle.driver_model.specs.States.{State};
 ghost use Rattle.driver_model.specs.Surfaces.{video_bits};
 ghost use Rattle.driver_objects.specs.Kept.{kept_of};
+ghost use Rattle.driver_objects.specs.Kinds.{is_video};
 ghost use Rattle.driver_core.specs.Answered.{Calls, UnlessDone};
 ghost use Rattle.driver_core.specs.Found.{FindsAt, HasBytes};
-ghost use Rattle.driver_core.specs.Kinds.{is_video};
 ghost use Rattle.driver_core.specs.Roles.{IsLiveAt};
 ghost use Rattle.driver_core.specs.Stands.{Stands};
 
 use crate::answer::CoreAnswer;
 use crate::driver::Core;
-use crate::sizes::size_for;
-use bits_io::{NV12, YV12};
 use driver_model::{Answer, CHROMA_420, Call, SurfaceSize, VIDEO_SURFACE};
+use driver_objects::arguments::{is_ycbcr_format, size_for};
 use driver_objects::{Content, Stored, VideoSurface};
 use std::alloc::Global;
 use vd_plane::Picture;
@@ -158,10 +157,4 @@ impl Core {
         }
         Ok(index)
     }
-}
-
-fn is_ycbcr_format(format: u32) -> bool
-    ensures { result ≡ is_ycbcr_format format }
-{
-    format == NV12 || format == YV12
 }

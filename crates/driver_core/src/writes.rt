@@ -3,6 +3,7 @@ ghost use Rattle.std.specs.Prelude.{◌≤◌, IfOk, IfErr, OnErr};
 ghost use Rattle.driver_model.specs.States.{State};
 ghost use Rattle.driver_objects.specs.Kept.{kept_of};
 ghost use Rattle.driver_core.specs.Added.{Adds, RefusesAdd};
+ghost use Rattle.driver_core.specs.Given.{Gives};
 ghost use Rattle.driver_core.specs.Roles.{MayAdd, MayDestroy, MayWrite};
 ghost use Rattle.driver_core.specs.Stands.{Stands};
 ghost use Rattle.driver_core.specs.Written.{Destroys, Writes};
@@ -16,6 +17,14 @@ impl Core {
     pub(crate) fn write(&mut self, index: usize, content: Content)
         requires { MayWrite (kept_of self.old.objects) index content }
         ensures { Writes self.old self.new index content }
+    {
+        self.give(index, content);
+    }
+
+    // Puts content in the place of an object's.
+    pub(crate) fn give(&mut self, index: usize, content: Content)
+        requires { MayWrite (kept_of self.old.objects) index content }
+        ensures { Gives self.old self.new index content }
     {
         self.objects.replace(index, content);
     }

@@ -16,14 +16,12 @@ use Rattle.driver_objects.specs.Listed.{called, made_object}
 use Rattle.driver_objects.specs.Sound.{IsSound, called_place}
 use Rattle.driver_objects.specs.declared.content.Content.{Content}
 use Rattle.driver_objects.specs.declared.object.Object.{Object}
+use Rattle.driver_objects.proofs.Cases.{below_or_not}
 use Rattle.driver_objects.proofs.Changed.{length_adds}
 use Rattle.driver_objects.proofs.Lists.{at_append, count_append, count_remove, element_is, get_remove_before, get_remove_behind}
 use Rattle.driver_objects.proofs.Named.{called_place-None}
 
 -- ---- a destroyed object is let go of
-
-split : (m n : ℕ) → (m < n) ⊎ (n ≤ m)
-split m n = grind arith
 
 called_place-forgotten : (kind name : ℕ) (kept : List Object) (index : ℕ) (object : Object) → slice_get kept index ≡ Some object → object.is_live ≡ false
     → called_place kind name (remove kept index) ≡ called_place kind name kept
@@ -45,7 +43,7 @@ forgotten_sound names kept made sound index object stands dead =
     }
   where
     from : (i : ℕ) (a : Object) → slice_get (remove kept index) i ≡ Some a → (k : ℕ) × (slice_get kept k ≡ Some a) × (((i < index) × (k ≡ i)) ⊎ ((index ≤ i) × (k ≡ i + 1)))
-    from i a here = elim (split i index) [
+    from i a here = elim (below_or_not i index) [
       | inl below ↦ (i, sym (get_remove_before kept index i below) ∙ here, inl (below, refl))
       | inr behind ↦ (suc i, sym (get_remove_behind kept index i behind) ∙ here, inr (behind, omega arith))
     ]

@@ -1,5 +1,5 @@
 -- What a search by rising places finds, and one by kind and name.
-use Rattle.std.proofs.Common.{◌≡◌, ℕ, ◌<◌, ◌≤◌, inl, inr, true, List, length, get_or, slice_get, Some, None, sym, ◌∙◌, subst, arith}
+use Rattle.std.proofs.Common.{◌≡◌, ℕ, ◌<◌, ◌≤◌, inl, inr, true, List, length, get_or, slice_get, Some, None, sym, subst, arith}
 use Rattle.std.specs.List.{AllWithin, HoldsAt}
 use Rattle.std.specs.List.Sorted.{IsNonDecreasingBy}
 use Rattle.std.specs.Ordering.{nat_cmp, ordering_index}
@@ -11,11 +11,6 @@ use Rattle.handle_table.specs.Handles.{Handles}
 use Rattle.driver_objects.specs.Listed.{IsOnly, is_at}
 use Rattle.driver_objects.specs.Sound.{IsSound}
 use Rattle.driver_objects.specs.declared.object.Object.{Object}
-use Rattle.driver_objects.proofs.Lists.{element_is}
-
--- what stands at one place of a list is one object
-pub one_at : (kept : List Object) (i : ℕ) (a b : Object) → slice_get kept i ≡ Some a → slice_get kept i ≡ Some b → a ≡ b
-one_at kept i a b here there = element_is a b (sym here ∙ there)
 
 module _ (names : Handles ℕ) (kept : List Object) (made : ℕ) (sound : IsSound names kept made) where
   -- two objects of one place stand at one place of the list

@@ -3,3 +3,13 @@ pub mod Listed
 pub mod Kept
 pub mod Sound
 pub mod Faults
+pub mod Kinds
+pub mod Contents
+pub mod Counted
+pub mod Swept
+pub mod DeviceEnds
+pub mod Alike
+pub mod Ticks
+pub mod Flips
+pub mod Jobs
+pub mod References

@@ -1,118 +1,154 @@
--- The pictures that are kept for references.
-use Rattle.std.proofs.Common.{◌≡◌, ◌≢◌, ℕ, suc, ◌+◌, ◌<◌, Bool, true, false, ◌||◌, cond, List, [], ◌∷◌, length, Option, Some, None, refl, sym, ◌∙◌, ap, subst, arith, get_or-set_other, inl, inr}
-use Rattle.std.specs.declared.alloc.Global.{Global}
-use Rattle.std.specs.declared.sync.Arc.{Arc}
-use Rattle.std.specs.Prelude.{map, slice_index_or, slice_set, All}
-use Rattle.std.specs.Arc.{arc_value}
+-- The pictures that a buffer keeps for references.
+use Rattle.std.proofs.Common.{◌≡◌, ◌≢◌, ℕ, zero, suc, ◌==◌, Bool, true, false, ◌||◌, cond, List, [], ◌∷◌, Option, Some, None, refl, sym, ◌∙◌, ap, subst, arith, inl, inr}
+use Rattle.std.specs.Prelude.{map, All}
 use Rattle.std.specs.List.{find}
-use Rattle.std.specs.Option.{IsSome, option_map}
-use Rattle.std.proofs.lemmas.Bool.{cases_eq, eqb-true}
+use Rattle.std.specs.Option.{option_map}
 use Rattle.std.proofs.lemmas.Bool.Decides.{eqb_tells}
-use Rattle.std.proofs.lemmas.Grind.{get_or-set_at}
-use Rattle.std.proofs.lemmas.List.{ext_get_or, get_or_default, get_or-map, length-map}
+use Rattle.cb_types.specs.References.{is_absent, is_unused}
+use Rattle.cb_types.specs.Slices.{is_idr}
 use Rattle.cb_types.specs.declared.picture_info.PictureInfo.{PictureInfo}
 use Rattle.cb_types.specs.declared.picture_info.Reference.{Reference}
-use Rattle.recon.specs.References.{AreHeld, no_reference, reference_at}
+use Rattle.cb_types.specs.declared.size.SizeMbs.{SizeMbs}
 use Rattle.vd_plane.specs.declared.picture.Picture as samples
-use Rattle.access_units.specs.Pictures.{AreOwn, has_number}
-use Rattle.file_pictures.specs.Files.{Decoded, has_own_number, pictures_in, reference_of, references_of}
-use Rattle.file_pictures.specs.Offers.{HasNumber}
-use Rattle.file_pictures.specs.Streams.{AreNumbered}
+use Rattle.picture_buffer.specs.Buffers as buffers
+use Rattle.picture_buffer.specs.Renaming.{picture_of}
+use Rattle.picture_buffer.specs.declared.buffer.PictureBuffer.{PictureBuffer}
+use Rattle.access_units.specs.Pictures.{Picture, has_number, size_in}
+use Rattle.access_units.specs.Sequences.{sequence_of}
+use Rattle.file_pictures.specs.Files.{Decoded, has_own_number, reference_of, references_of}
+use Rattle.file_pictures.specs.Streams.{HaveSize, IsKept, Keeps, newest_of, newest_sequence}
 
-find_step : (b more : Bool) (one : Decoded) (rest : Option Decoded) → (b || more) ≡ true → (more ≡ true → IsSome rest) → IsSome (cond b (Some one) rest)
-find_step true more one rest has later = refl
-find_step false more one rest has later = later has
+-- ---- the sequence that a picture goes on with
 
-small_step : (b more : Bool) (frame number : ℕ) → (b ≡ true → frame ≡ number) → (b || more) ≡ true → frame < 17 → (more ≡ true → number < 17) → number < 17
-small_step true more frame number same has small later = let is : frame ≡ number = same refl in omega arith
-small_step false more frame number same has small later = later has
+-- none where it is an IDR picture
+abbrev pub gone_on : Bool → List Picture → List Picture
+gone_on idr sequence = cond idr [] sequence
 
--- One of the pictures has the number, and so one is found.
-found : (number : ℕ) (decoded : List Decoded) → has_number number (pictures_in decoded) ≡ true → IsSome (find (has_own_number number) decoded)
-found number [] has = absurd (cc)
-found number (one ∷ decoded) has =
-    find_step (has_own_number number one) (has_number number (pictures_in decoded)) one (find (has_own_number number) decoded) has (found number decoded)
+pub kept_on : (buffer : Option PictureBuffer) (decoded : List Decoded) (idr : Bool) (sequence : List Picture) → IsKept buffer decoded sequence → IsKept buffer decoded (gone_on idr sequence)
+kept_on None decoded true sequence is = refl
+kept_on None decoded false sequence is = is
+kept_on (Some buffer) decoded true sequence is = record {
+  kept = is.kept;
+  stands = is.stands;
+  sized = λ k d lt. absurd (omega arith);
+  newest = λ number has. absurd (cc);
+}
+kept_on (Some buffer) decoded false sequence is = is
 
--- and the number is below 17
-small : (number : ℕ) (decoded : List Decoded) → has_number number (pictures_in decoded) ≡ true → AreNumbered decoded → number < 17
-small number [] has numbered = absurd (cc)
-small number (one ∷ decoded) has numbered =
-    let later : AreNumbered decoded = λ k d lt. numbered (suc k) d (omega arith) in
-    small_step (has_own_number number one) (has_number number (pictures_in decoded)) one.picture.begun.frame number (eqb-true one.picture.begun.frame number) has (numbered 0 one (omega arith)) (λ more. small number decoded more later)
+pub sized_on : (size : SizeMbs) (idr : Bool) (sequence : List Picture) → (idr ≡ false → HaveSize size sequence) → HaveSize size (gone_on idr sequence)
+sized_on size true sequence sized = λ k d lt. absurd (omega arith)
+sized_on size false sequence sized = sized refl
 
-pub entries_numbered : (decoded : List Decoded) (entries : List Reference) → AreOwn (pictures_in decoded) entries → AreNumbered decoded → All HasNumber entries
-entries_numbered decoded entries own numbered k d lt used present =
-    small (slice_index_or entries k d).surface decoded (own k d lt used present) numbered
+-- Where the pictures have two sizes there are none.
+none_of_both : (one other : SizeMbs) (sequence : List Picture) → HaveSize one sequence → HaveSize other sequence → one ≢ other → sequence ≡ []
+none_of_both one other [] of_one of_other apart = refl
+none_of_both one other (picture ∷ sequence) of_one of_other apart = absurd (apart (sym (of_one 0 picture (omega arith)) ∙ of_other 0 picture (omega arith)))
 
-some_samples : (o : Option Decoded) → IsSome o → IsSome (option_map (λ (one : Decoded). one.samples) o)
-some_samples None some = some
-some_samples (Some one) some = some
+-- a new buffer, where there is nothing to keep
+pub keeps_none : (new : PictureBuffer) → (kept : ℕ → samples.Picture) × buffers.StandsFor new kept → (decoded : List Decoded) (sequence : List Picture) → sequence ≡ [] → Keeps new decoded sequence
+keeps_none new stands decoded sequence none =
+    let empty : Keeps new decoded [] = record {
+      kept = stands.0;
+      stands = stands.1;
+      sized = λ k d lt. absurd (omega arith);
+      newest = λ number has. absurd (cc);
+    } in
+    subst (λ (pictures : List Picture). Keeps new decoded pictures) (sym none) empty
 
--- Each entry that is used, and isn't an absent frame, has its picture.
-pub references_held : (decoded : List Decoded) (info : PictureInfo) → length info.references ≡ 16 → AreOwn (pictures_in decoded) info.references → AreHeld info (references_of decoded info)
-references_held decoded info count own place lt used present =
-    let inside : place < length info.references = omega (arith, count) in
-    let entry = reference_at info place in
-    let there : IsSome (find (has_own_number entry.surface) decoded) = found entry.surface decoded (own place no_reference inside used present) in
-    let is : slice_index_or (references_of decoded info) place None ≡ reference_of decoded entry = get_or-map (reference_of decoded) info.references place no_reference None inside in
-    let named : reference_of decoded entry ≡ option_map (λ (one : Decoded). one.samples) (find (has_own_number entry.surface) decoded) = rw (used, present) refl in
-    subst (λ (o : Option samples.Picture). IsSome o) (sym (is ∙ named)) (some_samples _ there)
+-- a new buffer in place of one of another size, or of none
+pub keeps_fresh : (new : PictureBuffer) (old : Option PictureBuffer) (size : SizeMbs) → (kept : ℕ → samples.Picture) × buffers.StandsFor new kept
+    → ((buffer : PictureBuffer) → old ≡ Some buffer → buffers.size_of buffer ≢ size)
+    → (decoded : List Decoded) (sequence : List Picture) → IsKept old decoded sequence → HaveSize size sequence → Keeps new decoded sequence
+keeps_fresh new None size stands other decoded sequence kept sized = keeps_none new stands decoded sequence kept
+keeps_fresh new (Some buffer) size stands other decoded sequence kept sized =
+    keeps_none new stands decoded sequence (none_of_both (buffers.size_of buffer) size sequence kept.sized sized (other buffer refl))
 
--- The references of an info are as many as its entries.
-pub length-references : (decoded : List Decoded) (info : PictureInfo) → length (references_of decoded info) ≡ length info.references
-length-references decoded info = length-map info.references (reference_of decoded)
+-- ---- what references name
 
--- One more picture is kept in place of the one with its number.
-pub keeps_one : (decoded : List Decoded) (one : Decoded) (kept : List (Option (Arc samples.Picture Global))) (new : Arc samples.Picture Global) (number : ℕ) → number < 17 → length kept ≡ 17
-    → option_map arc_value (slice_index_or kept number None) ≡ option_map (λ (one : Decoded). one.samples) (find (has_own_number number) decoded)
-    → arc_value new ≡ one.samples
-    → option_map arc_value (slice_index_or (slice_set kept one.picture.begun.frame (Some new)) number None) ≡ option_map (λ (one : Decoded). one.samples) (find (has_own_number number) (one ∷ decoded))
-keeps_one decoded one kept new number small count was is =
-    let frame = one.picture.begun.frame in
-    let samples_of : Option Decoded → Option samples.Picture = option_map (λ (one : Decoded). one.samples) in
-    let rest = find (has_own_number number) decoded in
-    elim (eqb_tells frame number) [
-      | inl w ↦
-          ap (option_map arc_value) (get_or-set_at kept frame number (Some new) None (sym w.1) (omega (arith, w.1)))
-          ∙ (ap Some is ∙ sym (ap (λ (b : Bool). samples_of (cond b (Some one) rest)) w.0))
-      | inr w ↦
-          let other : number ≢ frame = λ e. w.1 (sym e) in
-          ap (option_map arc_value) (get_or-set_other kept frame number (Some new) None other)
-          ∙ (was ∙ sym (ap (λ (b : Bool). samples_of (cond b (Some one) rest)) w.0))
-    ]
+-- Where the entry is used, and isn't an absent frame, the picture of its number is the newest one.
+abbrev IsNamedIn : List Decoded → (ℕ → samples.Picture) → Reference → Type 0
+IsNamedIn decoded kept entry = is_unused entry ≡ false → is_absent entry ≡ false → newest_of decoded entry.surface ≡ Some (kept entry.surface)
 
--- The pictures by their places are those of the entries, one by one.
-pub references_are : (held : List (Option (Arc samples.Picture Global))) (entries : List Reference) (decoded : List Decoded) → length held ≡ length entries
-    → ((k : ℕ) (d : Reference) → k < length entries → option_map arc_value (slice_index_or held k None) ≡ reference_of decoded (slice_index_or entries k d))
-    → map (λ (one : Option (Arc samples.Picture Global)). option_map arc_value one) held ≡ map (reference_of decoded) entries
-references_are held entries decoded count each =
-    let value : Option (Arc samples.Picture Global) → Option samples.Picture = λ one. option_map arc_value one in
-    let of_held = length-map held value in
-    let of_entries = length-map entries (reference_of decoded) in
-    ext_get_or None (map value held) (map (reference_of decoded) entries) (of_held ∙ (count ∙ sym of_entries))
-    (λ k lt.
-    let in_held : k < length held = omega (arith, of_held, lt) in
-    let in_entries : k < length entries = omega (arith, count, in_held) in
-    get_or-map value held k None None in_held ∙ (each k no_reference in_entries ∙ sym (get_or-map (reference_of decoded) entries k no_reference None in_entries)))
+by_use : (unused absent : Bool) (picture : samples.Picture) (found : Option samples.Picture) → (unused ≡ false → absent ≡ false → found ≡ Some picture)
+    → cond (unused || absent) None (Some picture) ≡ cond (unused || absent) None found
+by_use true absent picture found is = refl
+by_use false true picture found is = refl
+by_use false false picture found is = sym (is refl refl)
 
--- one more place
-pub places_more : (held : List (Option (Arc samples.Picture Global))) (entries : List Reference) (decoded : List Decoded) (new : Option (Arc samples.Picture Global)) (entry : Reference) (n : ℕ)
-    → n < length held → n < length entries → entry ≡ slice_index_or entries n entry → option_map arc_value new ≡ reference_of decoded entry
-    → ((k : ℕ) (d : Reference) → k < n → option_map arc_value (slice_index_or held k None) ≡ reference_of decoded (slice_index_or entries k d))
-    → (k : ℕ) (d : Reference) → k < n + 1 → option_map arc_value (slice_index_or (slice_set held n new) k None) ≡ reference_of decoded (slice_index_or entries k d)
-places_more held entries decoded new entry n in_held in_entries is here each k d lt =
-    elim (cases_eq k n) [
-      | inl same ↦
-          let read : entry ≡ slice_index_or entries k d = is ∙ (get_or_default entries n entry d in_entries ∙ ap (λ m. slice_index_or entries m d) (sym same)) in
-          ap (option_map arc_value) (get_or-set_at held n k new None same in_held) ∙ (here ∙ ap (reference_of decoded) read)
-      | inr other ↦
-          let below : k < n = omega arith in
-          ap (option_map arc_value) (get_or-set_other held n k new None other) ∙ each k d below
-    ]
+entry_is : (decoded : List Decoded) (kept : ℕ → samples.Picture) (entry : Reference) → IsNamedIn decoded kept entry → picture_of kept entry ≡ reference_of decoded entry
+entry_is decoded kept entry is = by_use (is_unused entry) (is_absent entry) (kept entry.surface) (newest_of decoded entry.surface) is
 
-pub places_more_at : (held : List (Option (Arc samples.Picture Global))) (entries : List Reference) (decoded : List Decoded) (new : Option (Arc samples.Picture Global)) (e : Reference) (n : ℕ)
-    → n < length held → n < length entries → option_map arc_value new ≡ reference_of decoded (slice_index_or entries n e)
-    → ((k : ℕ) (d : Reference) → k < n → option_map arc_value (slice_index_or held k None) ≡ reference_of decoded (slice_index_or entries k d))
-    → (k : ℕ) (d : Reference) → k < n + 1 → option_map arc_value (slice_index_or (slice_set held n new) k None) ≡ reference_of decoded (slice_index_or entries k d)
-places_more_at held entries decoded new e n in_held in_entries here each =
-    places_more held entries decoded new (slice_index_or entries n e) n in_held in_entries (get_or_default entries n e (slice_index_or entries n e) in_entries) here each
+entries_are : (decoded : List Decoded) (kept : ℕ → samples.Picture) (entries : List Reference) → All (IsNamedIn decoded kept) entries → map (picture_of kept) entries ≡ map (reference_of decoded) entries
+entries_are decoded kept [] each = refl
+entries_are decoded kept (entry ∷ entries) each =
+    let here = entry_is decoded kept entry (each 0 entry (omega arith)) in
+    let later = entries_are decoded kept entries (λ k d lt. each (suc k) d (omega arith)) in
+    ap (λ (one : Option samples.Picture). one ∷ map (picture_of kept) entries) here ∙ ap (λ (more : List (Option samples.Picture)). reference_of decoded entry ∷ more) later
+
+named_each : (idr : Bool) (sequence : List Picture) (decoded : List Decoded) (kept : ℕ → samples.Picture) (entries : List Reference) → (idr ≡ true → All (λ (entry : Reference). is_unused entry ≡ true) entries)
+    → All (λ (entry : Reference). is_unused entry ≡ false → is_absent entry ≡ false → has_number entry.surface sequence ≡ true) entries
+    → ((number : ℕ) → has_number number (gone_on idr sequence) ≡ true → newest_of decoded number ≡ Some (kept number))
+    → All (IsNamedIn decoded kept) entries
+named_each true sequence decoded kept entries none own newest = λ k d lt used present. let bad = none refl k d lt in absurd (cc)
+named_each false sequence decoded kept entries none own newest = λ k d lt used present. newest _ (own k d lt used present)
+
+-- The pictures that a buffer has by the entries' numbers are those that the entries name.
+pub references_are : (idr : Bool) (sequence : List Picture) (decoded : List Decoded) (kept : ℕ → samples.Picture) (info : PictureInfo) → (idr ≡ true → All (λ (entry : Reference). is_unused entry ≡ true) info.references)
+    → All (λ (entry : Reference). is_unused entry ≡ false → is_absent entry ≡ false → has_number entry.surface sequence ≡ true) info.references
+    → ((number : ℕ) → has_number number (gone_on idr sequence) ≡ true → newest_of decoded number ≡ Some (kept number))
+    → map (picture_of kept) info.references ≡ references_of decoded info
+references_are idr sequence decoded kept info none own newest = entries_are decoded kept info.references (named_each idr sequence decoded kept info.references none own newest)
+
+-- ---- one more picture
+
+number_step : (b c more : Bool) (p q : samples.Picture) (one : Decoded) (rest : Option Decoded) → b ≡ c → one.samples ≡ p → (b || more) ≡ true → (more ≡ true → option_map (λ (one : Decoded). one.samples) rest ≡ Some q)
+    → option_map (λ (one : Decoded). one.samples) (cond b (Some one) rest) ≡ Some (cond c p q)
+number_step true true more p q one rest same is has later = ap Some is
+number_step false false more p q one rest same is has later = later has
+number_step true false more p q one rest same is has later = absurd (cc)
+number_step false true more p q one rest same is has later = absurd (cc)
+
+same_test : (a b : ℕ) → (a == b) ≡ (b == a)
+same_test a b = elim (eqb_tells a b) [
+  | inl w ↦ elim (eqb_tells b a) [ inl v ↦ w.0 ∙ sym v.0 | inr v ↦ absurd (v.1 (sym w.1)) ]
+  | inr w ↦ elim (eqb_tells b a) [ inl v ↦ absurd (w.1 (sym v.1)) | inr v ↦ w.0 ∙ sym v.0 ]
+]
+
+-- the picture under the number itself
+pub same_number : (kept : ℕ → samples.Picture) (number : ℕ) (p : samples.Picture) → buffers.with_picture kept number p number ≡ p
+same_number kept number p = elim (eqb_tells number number) [
+  | inl w ↦ ap (λ (b : Bool). cond b p (kept number)) w.0
+  | inr w ↦ absurd (w.1 refl)
+]
+
+newest_more : (decoded : List Decoded) (one : Decoded) (frame : ℕ) (sequence : List Picture) (kept : ℕ → samples.Picture) → frame ≡ one.picture.begun.frame
+    → ((number : ℕ) → has_number number sequence ≡ true → newest_of decoded number ≡ Some (kept number))
+    → (number : ℕ) → has_number number (one.picture ∷ sequence) ≡ true → newest_of (one ∷ decoded) number ≡ Some (buffers.with_picture kept frame one.samples number)
+newest_more decoded one frame sequence kept is newest number has =
+    let own = one.picture.begun.frame in
+    let test : (own == number) ≡ (number == frame) = same_test own number ∙ ap (λ (f : ℕ). number == f) (sym is) in
+    number_step (own == number) (number == frame) (has_number number sequence) one.samples (kept number) one (find (has_own_number number) decoded) test refl has (newest number)
+
+sized_more : (size : SizeMbs) (picture : Picture) (sequence : List Picture) → size_in picture ≡ size → HaveSize size sequence → HaveSize size (picture ∷ sequence)
+sized_more size picture sequence here later zero d lt = here
+sized_more size picture sequence here later (suc k) d lt = later k d (omega arith)
+
+sequence_more : (one : Decoded) (decoded : List Decoded) → newest_sequence (one ∷ decoded) ≡ (one.picture ∷ gone_on (is_idr one.picture.begun.header) (newest_sequence decoded))
+unfolding sequence_of
+sequence_more one decoded = refl
+
+-- A buffer of the pictures with one more, of its size.
+pub keeps_more : (old new : PictureBuffer) (decoded : List Decoded) (one : Decoded) (idr : Bool) (frame : ℕ) → idr ≡ is_idr one.picture.begun.header → frame ≡ one.picture.begun.frame
+    → (keeps : Keeps old decoded (gone_on idr (newest_sequence decoded))) → buffers.StandsFor new (buffers.with_picture keeps.kept frame one.samples)
+    → buffers.size_of new ≡ buffers.size_of old → size_in one.picture ≡ buffers.size_of old → Keeps new (one ∷ decoded) (newest_sequence (one ∷ decoded))
+keeps_more old new decoded one idr frame is_idr_is frame_is keeps stands same here =
+    let sequence = gone_on idr (newest_sequence decoded) in
+    let is : newest_sequence (one ∷ decoded) ≡ (one.picture ∷ sequence) = sequence_more one decoded ∙ ap (λ (b : Bool). one.picture ∷ gone_on b (newest_sequence decoded)) (sym is_idr_is) in
+    let sized : HaveSize (buffers.size_of old) (one.picture ∷ sequence) = sized_more (buffers.size_of old) one.picture sequence here keeps.sized in
+    let more : Keeps new (one ∷ decoded) (one.picture ∷ sequence) = record {
+      kept = buffers.with_picture keeps.kept frame one.samples;
+      stands = stands;
+      sized = subst (λ (size : SizeMbs). HaveSize size (one.picture ∷ sequence)) (sym same) sized;
+      newest = newest_more decoded one frame sequence keeps.kept frame_is keeps.newest;
+    } in
+    subst (λ (pictures : List Picture). Keeps new (one ∷ decoded) pictures) (sym is) more

@@ -1,10 +1,9 @@
 -- What a decoder answers follows from what the acceptor gives and what a picture's slices come to.
-use Rattle.std.proofs.Common.{◌≡◌, ◌≢◌, ℕ, ℤ, zero, suc, ◌^◌, ◌<◌, ◌≤◌, inl, inr, Bool, true, false, List, [], ◌∷◌, length, replicate, Option, Some, None, Result, Ok, refl, sym, ◌∙◌, ap, subst, arith}
-use Rattle.std.specs.Prelude.{slice_index_or, slice_set, unwrap_or}
+use Rattle.std.proofs.Common.{◌≡◌, ◌≢◌, ℕ, ℤ, inl, inr, Bool, true, false, List, [], ◌∷◌, Option, Some, None, Result, Ok, refl, sym, ◌∙◌, ap, subst}
+use Rattle.std.specs.Prelude.{unwrap_or}
 use Rattle.std.specs.declared.alloc.Global.{Global}
 use Rattle.std.specs.declared.sync.Arc.{Arc}
 use Rattle.std.specs.Arc.{arc_value}
-use Rattle.std.specs.Option.{option_map}
 use Rattle.cb_types.specs.declared.picture_info.PictureInfo.{PictureInfo}
 use Rattle.cb_types.specs.declared.size.SizeMbs.{SizeMbs}
 use Rattle.decoder_render.specs.Coverage.{given}
@@ -19,39 +18,31 @@ use Rattle.marking.specs.declared.begun.Begun.{Begun}
 use Rattle.marking.specs.declared.begun.MarkFault.{MarkFault}
 use Rattle.marking.specs.declared.marker.Marker.{Marker}
 use Rattle.vd_plane.specs.declared.picture.Picture as samples
+use Rattle.picture_buffer.specs.declared.buffer.PictureBuffer.{PictureBuffer}
 use Rattle.access_units.specs.AccessUnits.{AccessUnit}
 use Rattle.access_units.specs.Acceptors as acceptors
 use Rattle.access_units.specs.Pictures.{IsPicture, Picture, payloads_of, submission_of}
+use Rattle.access_units.specs.Sequences.{sequence_of}
 use Rattle.access_units.specs.Standing as acceptor
 use Rattle.access_units.specs.declared.acceptor.Acceptor.{Acceptor}
 use Rattle.access_units.specs.declared.acceptor.Next.TheVariants as next
 use Rattle.access_units.specs.declared.acceptor.Unsettled.{Unsettled}
 use Rattle.access_units.specs.declared.content.Named.{Named}
 use Rattle.file_pictures.specs.Files.{AreAllWhole, Decoded, IsReadTo, IsReadWhole, IsWholeBehind, pictures_in, references_of}
-use Rattle.file_pictures.specs.Offers.{AreSamples, IsOffered, Offer, with_samples}
-use Rattle.file_pictures.specs.Streams.{AreKept, AreNumbered, IsNextOne, MayFeed, Shows, StandsFor, Stream, no_stream, past_of, showing, streamed}
+use Rattle.file_pictures.specs.Offers.{AreKeptBehind, AreSamples, IsOffered, Offer, with_samples}
+use Rattle.file_pictures.specs.Streams.{IsKept, IsNextOne, MayFeed, Shows, StandsFor, Stream, newest_sequence, no_stream, past_of, showing, streamed}
 use Rattle.file_pictures.specs.declared.stream_decoder.StreamDecoder.{StreamDecoder}
-use Rattle.file_pictures.proofs.Kept.{keeps_one}
 use Rattle.file_pictures.proofs.Payloads.{slices_have_payloads}
 use Rattle.file_pictures.proofs.WholeSlices.{next_slices}
 
 -- ---- at the beginning
 
-nones : {T : Type 0} (n number : ℕ) → slice_index_or (replicate {A = Option T} n None) number None ≡ None
-nones zero number = refl
-nones (suc n) zero = refl
-nones (suc n) (suc number) = nones n number
-
-pub none_kept : {T : Type 0} (number : ℕ) (kept : List (Option T)) → kept ≡ replicate 17 None → slice_index_or kept number None ≡ None
-none_kept number kept is = ap (λ k. slice_index_or k number None) is ∙ nones 17 number
-
-pub begins : (decoder : StreamDecoder) → acceptor.StandsFor decoder.acceptor acceptors.no_past → decoder.pictures ≡ replicate 17 None → StandsFor decoder no_stream
-unfolding AreAllWhole
+pub begins : (decoder : StreamDecoder) → acceptor.StandsFor decoder.acceptor acceptors.no_past → decoder.buffer ≡ None → StandsFor decoder no_stream
+unfolding AreAllWhole sequence_of
 begins decoder stands empty = record {
   acceptor = stands;
   whole = tt;
-  kept = λ number lt. ap (option_map arc_value) (none_kept number decoder.pictures empty);
-  numbers = λ k d lt. absurd (omega arith);
+  kept = subst (λ (buffer : Option PictureBuffer). IsKept buffer [] []) (sym empty) refl;
 }
 
 -- ---- what is fed
@@ -74,8 +65,7 @@ fed_stream decoder a stream bytes stands fed =
     record {
       acceptor = fed_stands a stream bytes fed;
       whole = subst AreAllWhole same stands.whole;
-      kept = subst (λ (d : List Decoded). AreKept decoder d) same stands.kept;
-      numbers = subst AreNumbered same stands.numbers;
+      kept = subst (λ (d : List Decoded). IsKept decoder.buffer d (newest_sequence d)) same stands.kept;
     }
 
 -- ---- the acceptor's answers
@@ -84,7 +74,7 @@ pub may_ask : (stream : Stream) → acceptors.MayAsk (past_of stream)
 may_ask stream = λ none. absurd (cc)
 
 pub asked : (decoder : StreamDecoder) (a : Acceptor) (stream : Stream) → StandsFor decoder stream → acceptor.StandsFor a (past_of stream) → StandsFor (record decoder { acceptor = a }) stream
-asked decoder a stream stands here = record { acceptor = here; whole = stands.whole; kept = stands.kept; numbers = stands.numbers }
+asked decoder a stream stands here = record { acceptor = here; whole = stands.whole; kept = stands.kept }
 
 -- a picture was given
 pub offered : (decoder : StreamDecoder) (a : Acceptor) (stream : Stream) (unsettled : Unsettled) → StandsFor decoder stream → acceptor.StandsBehindAnswer a (past_of stream) (next.Picture unsettled)
@@ -98,7 +88,6 @@ offered decoder a stream unsettled stands behind decodable = (
     decodable = decodable;
     whole = stands.whole;
     kept = stands.kept;
-    numbers = stands.numbers;
   },
 )
 
@@ -163,29 +152,11 @@ module _ (decoder : StreamDecoder) (offer : Offer) (unsettled : Unsettled) (refs
       whole_along _ _ _ _ _ _ _ _ any (sym info) (sym is.shows.size) (sym (refs_are offer unsettled refs info named)) (sym (units_are decoder offer unsettled units is payloads)) whole in
       other (outcome_one (given unsettled.begun.info unsettled.size refs) units is.decodable.info is.decodable.size result outcome.Ok p any given_result back)
 
--- its bytes are few
-pub small_submission : (decoder : StreamDecoder) (offer : Offer) (unsettled : Unsettled) → IsOffered decoder offer unsettled → length unsettled.submission < 2 ^ 32
-small_submission decoder offer unsettled is =
-    let fits : length (submission_of is.next.au.slices) ≤ 67108864 = is.next.is.fits in
-    let same : unsettled.submission ≡ submission_of is.next.au.slices = is.shows.submission ∙ ap submission_of (ap (λ (p : Picture). p.slices) is.next.is.is) in
-    let count : length unsettled.submission ≡ length (submission_of is.next.au.slices) = ap length same in
-    omega (arith, fits, count)
-
 -- ---- the picture is decoded
-
-numbered_more : (one : Decoded) (decoded : List Decoded) → one.picture.begun.frame < 17 → AreNumbered decoded → AreNumbered (one ∷ decoded)
-numbered_more one decoded here later zero d lt = here
-numbered_more one decoded here later (suc k) d lt = later k d (omega arith)
 
 all_whole_more : (one : Decoded) (decoded : List Decoded) → AreAllWhole decoded → IsWholeBehind decoded one → AreAllWhole (one ∷ decoded)
 unfolding AreAllWhole
 all_whole_more one decoded before here = (before, here)
-
-small_frame : (decoder : StreamDecoder) (offer : Offer) (unsettled : Unsettled) → IsOffered decoder offer unsettled → offer.picture.begun.frame < 17
-small_frame decoder offer unsettled is =
-    let same : unsettled.begun.frame ≡ offer.picture.begun.frame = ap (λ (b : Begun). b.frame) is.shows.begun in
-    let small : unsettled.begun.frame ≤ 16 = is.decodable.frame in
-    omega arith
 
 next_one : (decoder : StreamDecoder) (offer : Offer) (unsettled : Unsettled) (p : samples.Picture) → IsOffered decoder offer unsettled → AreSamples offer (Some p) → IsNextOne offer.stream (with_samples offer p)
 next_one decoder offer unsettled p is whole = record {
@@ -206,32 +177,24 @@ shows_one decoder offer unsettled poc kept p is count value = record {
   samples = value;
 }
 
-stands_more : (decoder : StreamDecoder) (a : Acceptor) (offer : Offer) (unsettled : Unsettled) (kept : Arc samples.Picture Global) (p : samples.Picture) → IsOffered decoder offer unsettled
-    → AreSamples offer (Some p) → arc_value kept ≡ p → length decoder.pictures ≡ 17
-    → acceptor.StandsFor a (acceptors.settling (acceptors.giving (past_of offer.stream) offer.picture) true)
-    → StandsFor (record decoder { acceptor = a; pictures = slice_set decoder.pictures unsettled.begun.frame (Some kept) }) (showing offer.stream (with_samples offer p))
-stands_more decoder a offer unsettled kept p is whole value count settled =
-    let one = with_samples offer p in
-    let decoded = offer.stream.decoded in
-    let same : offer.picture.begun.frame ≡ unsettled.begun.frame = sym (ap (λ (b : Begun). b.frame) is.shows.begun) in
-    let new : StreamDecoder = record decoder { acceptor = a; pictures = slice_set decoder.pictures one.picture.begun.frame (Some kept) } in
-    let here : AreKept new (one ∷ decoded) = λ number lt. keeps_one decoded one decoder.pictures kept number lt count (is.kept number lt) value in
-    record {
-      acceptor = settled;
-      whole = all_whole_more one decoded is.whole whole;
-      kept = subst (λ (frame : ℕ). AreKept (record decoder { acceptor = a; pictures = slice_set decoder.pictures frame (Some kept) }) (one ∷ decoded)) same here;
-      numbers = numbered_more one decoded (small_frame decoder offer unsettled is) is.numbers;
-    }
+stands_more : (old new : StreamDecoder) (offer : Offer) (unsettled : Unsettled) (p : samples.Picture) → IsOffered old offer unsettled → AreSamples offer (Some p) → AreKeptBehind new.buffer offer (Some p)
+    → acceptor.StandsFor new.acceptor (acceptors.settling (acceptors.giving (past_of offer.stream) offer.picture) true) → StandsFor new (showing offer.stream (with_samples offer p))
+stands_more old new offer unsettled p is whole kept settled = record {
+  acceptor = settled;
+  whole = all_whole_more (with_samples offer p) offer.stream.decoded is.whole whole;
+  kept = kept;
+}
 
 -- the answer is the next picture
-pub gives : (decoder : StreamDecoder) (a : Acceptor) (offer : Offer) (unsettled : Unsettled) (poc : ℤ) (kept shown : Arc samples.Picture Global) (p : samples.Picture) → IsOffered decoder offer unsettled
-    → AreSamples offer (Some p) → poc ≡ unsettled.begun.poc → arc_value kept ≡ p → arc_value shown ≡ p → length decoder.pictures ≡ 17
-    → acceptor.StandsFor a (acceptors.settling (acceptors.giving (past_of offer.stream) offer.picture) true)
+pub gives : (old new : StreamDecoder) (offer : Offer) (unsettled : Unsettled) (poc : ℤ) (shown : Arc samples.Picture Global) → IsOffered old offer unsettled
+    → AreSamples offer (Some (arc_value shown)) → AreKeptBehind new.buffer offer (Some (arc_value shown)) → poc ≡ unsettled.begun.poc
+    → acceptor.StandsFor new.acceptor (acceptors.settling (acceptors.giving (past_of offer.stream) offer.picture) true)
     → (one : Decoded) × IsNextOne offer.stream one
     × Shows (record { offset = unsettled.offset; poc = poc; period = unsettled.begun.period; depth = unsettled.depth; samples = shown }) one
-    × StandsFor (record decoder { acceptor = a; pictures = slice_set decoder.pictures unsettled.begun.frame (Some kept) }) (showing offer.stream one)
-gives decoder a offer unsettled poc kept shown p is whole poc_is kept_is shown_is count settled =
-    (with_samples offer p, next_one decoder offer unsettled p is whole, shows_one decoder offer unsettled poc shown p is poc_is shown_is, stands_more decoder a offer unsettled kept p is whole kept_is count settled)
+    × StandsFor new (showing offer.stream one)
+gives old new offer unsettled poc shown is whole kept poc_is settled =
+    let p : samples.Picture = arc_value shown in
+    (with_samples offer p, next_one old offer unsettled p is whole, shows_one old offer unsettled poc shown p is poc_is refl, stands_more old new offer unsettled p is whole kept settled)
 
 -- ---- the picture isn't accepted
 

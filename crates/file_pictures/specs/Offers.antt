@@ -1,14 +1,13 @@
 -- A picture that the acceptor gave, until it is settled what its slices come to.
-use Rattle.std.specs.Prelude.{◌≡◌, ◌<◌, false, Option, Some, None}
-use Rattle.cb_types.specs.References.{is_absent, is_unused}
-use Rattle.cb_types.specs.declared.picture_info.Reference.{Reference}
+use Rattle.std.specs.Prelude.{List, ◌∷◌, Option, Some, None}
+use Rattle.picture_buffer.specs.declared.buffer.PictureBuffer.{PictureBuffer}
 use Rattle.vd_plane.specs.declared.picture.Picture as samples
 use Rattle.access_units.specs.Acceptors as acceptors
 use Rattle.access_units.specs.Pictures.{Picture}
 use Rattle.access_units.specs.Standing as acceptor
 use Rattle.access_units.specs.declared.acceptor.Unsettled.{Unsettled}
 use Rattle.file_pictures.specs.Files.{AreAllWhole, Decoded, IsWholeBehind}
-use Rattle.file_pictures.specs.Streams.{AreKept, AreNumbered, Stream, past_of}
+use Rattle.file_pictures.specs.Streams.{IsKept, Stream, newest_sequence, past_of}
 use Rattle.file_pictures.specs.declared.stream_decoder.StreamDecoder.{StreamDecoder}
 
 -- what was fed and given before, and the picture
@@ -23,8 +22,7 @@ pub record IsOffered (decoder : StreamDecoder) (offer : Offer) (unsettled : Unse
   pub shows : acceptors.Shows unsettled offer.picture
   pub decodable : acceptors.IsDecodable (past_of offer.stream) unsettled
   pub whole : AreAllWhole offer.stream.decoded
-  pub kept : AreKept decoder offer.stream.decoded
-  pub numbers : AreNumbered offer.stream.decoded
+  pub kept : IsKept decoder.buffer offer.stream.decoded (newest_sequence offer.stream.decoded)
 
 abbrev pub with_samples : Offer → samples.Picture → Decoded
 with_samples offer samples = record { picture = offer.picture; samples = samples }
@@ -34,6 +32,9 @@ abbrev pub AreSamples : Offer → Option samples.Picture → Type 0
 AreSamples offer None = (any : samples.Picture) → ¬ IsWholeBehind offer.stream.decoded (with_samples offer any)
 AreSamples offer (Some samples) = IsWholeBehind offer.stream.decoded (with_samples offer samples)
 
--- An entry that is used, and isn't an absent frame, has an own number of a picture.
-abbrev pub HasNumber : Reference → Type 0
-HasNumber entry = is_unused entry ≡ false → is_absent entry ≡ false → entry.surface < 17
+-- Where they are there, the buffer keeps the sequence with the picture.
+abbrev pub AreKeptBehind : Option PictureBuffer → Offer → Option samples.Picture → Type 0
+AreKeptBehind buffer offer None = Unit {0}
+AreKeptBehind buffer offer (Some samples) =
+    let decoded : List Decoded = with_samples offer samples ∷ offer.stream.decoded in
+    IsKept buffer decoded (newest_sequence decoded)

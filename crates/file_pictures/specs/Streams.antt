@@ -1,11 +1,17 @@
 -- What a decoder of a file stands for, and what it answers.
-use Rattle.std.specs.Prelude.{◌≡◌, ℕ, ◌<◌, ◌≤◌, Bool, true, false, List, [], ◌∷◌, ◌++◌, length, slice_index_or, All, Some, None}
+use Rattle.std.specs.Prelude.{◌≡◌, ℕ, ◌≤◌, Bool, true, false, List, [], ◌∷◌, ◌++◌, length, All, Option, Some, None}
 use Rattle.std.specs.Arc.{arc_value}
 use Rattle.std.specs.List.{find}
 use Rattle.std.specs.Option.{option_map}
+use Rattle.cb_types.specs.declared.size.SizeMbs.{SizeMbs}
+use Rattle.vd_plane.specs.declared.picture.Picture as samples
+use Rattle.picture_buffer.specs.Buffers as buffers
+use Rattle.picture_buffer.specs.declared.buffer.PictureBuffer.{PictureBuffer}
 use Rattle.access_units.specs.AccessUnits.{AccessUnit}
 use Rattle.access_units.specs.Acceptors.{IsHungry, IsSettled, Past}
 use Rattle.access_units.specs.Depth.{depth_of}
+use Rattle.access_units.specs.Pictures.{Picture, has_number, size_in}
+use Rattle.access_units.specs.Sequences.{sequence_of}
 use Rattle.access_units.specs.Standing as acceptor
 use Rattle.file_pictures.specs.Files.{AreAllWhole, AreDecoded, Decoded, IsAcceptedPicture, IsReadTo, IsReadWhole, has_own_number, pictures_in}
 use Rattle.file_pictures.specs.declared.stream_decoder.DecodedPicture.{DecodedPicture}
@@ -34,15 +40,29 @@ pub record MayFeed (stream : Stream) (bytes : List ℕ) : Type 0 where
   pub not_ended : stream.ended ≡ false
   pub room : length (stream.text ++ bytes) ≤ 1073741824
 
--- The samples that are kept for an own number are those of the newest picture with that number.
-abbrev pub AreKept : StreamDecoder → List Decoded → Type 0
-AreKept decoder decoded =
-    (number : ℕ) → number < 17
-    → option_map arc_value (slice_index_or decoder.pictures number None) ≡ option_map (λ (one : Decoded). one.samples) (find (has_own_number number) decoded)
+-- The samples of the newest picture with this own number.
+abbrev pub newest_of : List Decoded → ℕ → Option samples.Picture
+newest_of decoded number = option_map (λ (one : Decoded). one.samples) (find (has_own_number number) decoded)
 
--- Each of these pictures has an own number below 17.
-abbrev pub AreNumbered : List Decoded → Type 0
-AreNumbered decoded = All (λ (one : Decoded). one.picture.begun.frame < 17) decoded
+abbrev pub HaveSize : SizeMbs → List Picture → Type 0
+HaveSize size pictures = All (λ (picture : Picture). size_in picture ≡ size) pictures
+
+-- The buffer has, by the own numbers of these pictures of a coded video sequence, the newest samples with those numbers. They
+-- have its size.
+pub record Keeps (buffer : PictureBuffer) (decoded : List Decoded) (sequence : List Picture) : Type 0 where
+  pub kept : ℕ → samples.Picture
+  pub stands : buffers.StandsFor buffer kept
+  pub sized : HaveSize (buffers.size_of buffer) sequence
+  pub newest : (number : ℕ) → has_number number sequence ≡ true → newest_of decoded number ≡ Some (kept number)
+
+-- where there is no buffer there are no pictures
+abbrev pub IsKept : Option PictureBuffer → List Decoded → List Picture → Type 0
+IsKept None decoded sequence = sequence ≡ []
+IsKept (Some buffer) decoded sequence = Keeps buffer decoded sequence
+
+-- the pictures of the newest one's coded video sequence
+abbrev pub newest_sequence : List Decoded → List Picture
+newest_sequence decoded = sequence_of (pictures_in decoded)
 
 -- the acceptor's past
 abbrev pub past_of : Stream → Past
@@ -52,8 +72,7 @@ past_of stream = record { text = stream.text; ended = stream.ended; given = pict
 pub record StandsFor (decoder : StreamDecoder) (stream : Stream) : Type 0 where
   pub acceptor : acceptor.StandsFor decoder.acceptor (past_of stream)
   pub whole : AreAllWhole stream.decoded
-  pub kept : AreKept decoder stream.decoded
-  pub numbers : AreNumbered stream.decoded
+  pub kept : IsKept decoder.buffer stream.decoded (newest_sequence stream.decoded)
 
 -- ---- the answers
 

@@ -1,19 +1,18 @@
 //! The pictures of a file whose bytes come in pieces, in decoding order, with their samples.
 
-ghost use Rattle.std.specs.Prelude.{◌≡◌, List, length, All, Some, None, OnOk, OnErr, IfOk};
+ghost use Rattle.std.specs.Prelude.{◌≡◌, List, OnOk, OnErr, IfOk};
 ghost use Rattle.std.specs.Arc.{arc_value};
 ghost use Rattle.std.specs.Option.{option_map};
 
 use access_units::{Acceptor, Next, Unsettled};
-use cb_types::{PictureInfo, Reference};
-use decoder_render::{Outcome, Prepared};
-use recon::Refs;
+use cb_types::SizeMbs;
+use decoder_render::Outcome;
+use marking::Begun;
+use picture_buffer::PictureBuffer;
 use std::alloc::{AllocError, Global};
 use std::sync::Arc;
+use submission::Submission;
 use vd_plane::Picture;
-
-/// As many own numbers pictures have: those of sixteen marked frames, and one more.
-const NUMBERS: usize = 17;
 
 /// A decoded picture of a file.
 #[derive(Drop)]
@@ -51,15 +50,17 @@ pub enum Step {
 pub struct StreamDecoder {
     alloc: Global,
     acceptor: Acceptor,
-    // The newest picture of each own number.
-    pictures: [Option<Arc<Picture>>; NUMBERS],
+    // The pictures that later ones may refer to, by their own numbers; None before the first picture.
+    buffer: Option<PictureBuffer>,
 }
 
 impl StreamDecoder {
-    ghost use Rattle.file_pictures.specs.Files.{Decoded, reference_of, references_of};
-    ghost use Rattle.file_pictures.specs.Offers.{AreSamples, HasNumber, IsOffered, Offer};
-    ghost use Rattle.file_pictures.specs.Streams.{AreKept, HasSmallDepth, IsStep, MayFeed, StandsFor, Stream, no_stream, streamed};
-    ghost use Rattle.recon.specs.References.{pictures_of};
+    ghost use Rattle.access_units.specs.Pictures as given;
+    ghost use Rattle.cb_types.specs.SizeMbs.{IsWithinLimits};
+    ghost use Rattle.picture_buffer.specs.Buffers.{size_of};
+    ghost use Rattle.file_pictures.specs.Files.{Decoded};
+    ghost use Rattle.file_pictures.specs.Offers.{AreKeptBehind, AreSamples, IsOffered, Offer};
+    ghost use Rattle.file_pictures.specs.Streams.{HasSmallDepth, HaveSize, IsKept, IsStep, Keeps, MayFeed, StandsFor, Stream, no_stream, streamed};
 
     /// Nothing was fed.
     pub fn new(alloc: Global) -> StreamDecoder
@@ -68,10 +69,7 @@ impl StreamDecoder {
         StreamDecoder {
             alloc,
             acceptor: Acceptor::new(alloc),
-            pictures: [
-                None, None, None, None, None, None, None, None, None, None, None, None, None, None,
-                None, None, None,
-            ],
+            buffer: None,
         }
     }
 
@@ -93,96 +91,80 @@ impl StreamDecoder {
     {
         match self.acceptor.next()? {
             Next::Hungry => Ok(Step::Hungry),
-            Next::Picture(unsettled) => self.decode(&unsettled),
+            Next::Picture(unsettled) => self.decode(unsettled),
             Next::End => Ok(Step::End),
             Next::Refused { offset, large } => Ok(Step::Refused { offset, large }),
         }
     }
 
     // The picture, decoded, or its access unit's place where its slices come to none.
-    fn decode(&mut self, unsettled: &Unsettled) -> Result<Step, AllocError>
-        requires { (offer : Offer) × IsOffered self.old offer unsettled.now }
-        ensures step { IfOk result (λ step. (offer : Offer) → IsOffered self.old offer unsettled.now → IsStep offer.stream step self.new) }
+    fn decode(&mut self, unsettled: Unsettled) -> Result<Step, AllocError>
+        requires { (offer : Offer) × IsOffered self.old offer unsettled }
+        ensures step { IfOk result (λ step. (offer : Offer) → IsOffered self.old offer unsettled → IsStep offer.stream step self.new) }
         ensures depth { IfOk result HasSmallDepth }
     {
+        let offset = unsettled.offset;
+        let poc = unsettled.begun.poc;
+        let period = unsettled.begun.period;
+        let depth = unsettled.depth;
         match self.samples_of(unsettled)? {
-            Some(samples) => self.accept(unsettled, samples),
-            None => Ok(self.refuse(unsettled)),
+            Some(samples) => {
+                self.acceptor.settle(true);
+                Ok(Step::Picture(DecodedPicture {
+                    offset,
+                    poc,
+                    period,
+                    depth,
+                    samples,
+                }))
+            }
+            None => {
+                self.acceptor.settle(false);
+                Ok(Step::Refused {
+                    offset,
+                    large: false,
+                })
+            }
         }
     }
 
-    // The samples that a picture's slices come to, None where they come to no whole picture.
-    fn samples_of(&self, unsettled: &Unsettled) -> Result<Option<Picture>, AllocError>
-        requires { (offer : Offer) × IsOffered self.now offer unsettled.now }
-        ensures { IfOk result (λ samples. (offer : Offer) → IsOffered self.now offer unsettled.now → AreSamples offer samples) }
+    // The samples that a picture's slices come to, None where they come to no whole picture. The buffer has them
+    // for those that refer to them.
+    fn samples_of(&mut self, unsettled: Unsettled) -> Result<Option<Arc<Picture>>, AllocError>
+        requires { (offer : Offer) × IsOffered self.old offer unsettled }
+        ensures samples { IfOk result (λ samples. (offer : Offer) → IsOffered self.old offer unsettled → AreSamples offer (option_map arc_value samples)) }
+        ensures kept { IfOk result (λ samples. (offer : Offer) → IsOffered self.old offer unsettled → AreKeptBehind self.new.buffer offer (option_map arc_value samples)) }
+        ensures acceptor { self.new.acceptor ≡ self.old.acceptor }
     {
-        let info = &unsettled.begun.info;
-        let refs = self.references(info)?;
-        let mut prepared = Prepared::new(self.alloc, unsettled.size, unsettled.submission.bytes())?;
-        match prepared.decode(info, &refs) {
-            Outcome::Ok => Ok(Some(prepared.picture())),
+        let Unsettled {
+            begun,
+            size,
+            submission,
+            ..
+        } = unsettled;
+        let mut buffer = self.buffer_for(size)?;
+        match buffer.decode(self.alloc, begun.frame, &begun.info, submission)? {
+            Outcome::Ok => {
+                let samples = buffer.samples(self.alloc, begun.frame)?;
+                self.buffer = Some(buffer);
+                Ok(Some(samples))
+            }
             _ => Ok(None),
         }
     }
 
-    // The picture has these samples, and is kept for those that refer to it.
-    fn accept(&mut self, unsettled: &Unsettled, samples: Picture) -> Result<Step, AllocError>
-        requires { (offer : Offer) × IsOffered self.old offer unsettled.now }
-        ensures step { IfOk result (λ step. (offer : Offer) → IsOffered self.old offer unsettled.now → AreSamples offer (Some samples) → IsStep offer.stream step self.new) }
-        ensures depth { IfOk result HasSmallDepth }
+    // The buffer for pictures of this size: the one that there is, or a new one.
+    fn buffer_for(&mut self, size: SizeMbs) -> Result<PictureBuffer, AllocError>
+        requires { IsWithinLimits size }
+        ensures size { IfOk result (λ buffer. size_of buffer ≡ size) }
+        ensures kept { IfOk result (λ buffer. (decoded : List Decoded) (sequence : List given.Picture) → IsKept self.old.buffer decoded sequence → HaveSize size sequence → Keeps buffer decoded sequence) }
+        ensures acceptor { self.new.acceptor ≡ self.old.acceptor }
     {
-        self.acceptor.settle(true);
-        let samples = Arc::new(self.alloc, samples)?;
-        self.pictures[unsettled.begun.frame as usize] = Some(samples.clone()?);
-        Ok(Step::Picture(DecodedPicture {
-            offset: unsettled.offset,
-            poc: unsettled.begun.poc,
-            period: unsettled.begun.period,
-            depth: unsettled.depth,
-            samples,
-        }))
-    }
-
-    // The picture's slices come to no whole picture.
-    fn refuse(&mut self, unsettled: &Unsettled) -> Step
-        requires { (offer : Offer) × IsOffered self.old offer unsettled.now }
-        ensures step { (offer : Offer) → IsOffered self.old offer unsettled.now → AreSamples offer None → IsStep offer.stream result self.new }
-        ensures depth { HasSmallDepth result }
-    {
-        self.acceptor.settle(false);
-        Step::Refused {
-            offset: unsettled.offset,
-            large: false,
+        if let Some(buffer) = self.buffer.take() {
+            if buffer.size() == size {
+                return Ok(buffer);
+            }
         }
-    }
-
-    // The pictures that the entries of the info name.
-    fn references(&self, info: &PictureInfo) -> Result<Refs, AllocError>
-        requires { All HasNumber info.now.references }
-        ensures pictures { IfOk result (λ refs. (decoded : List Decoded) → AreKept self.now decoded → pictures_of refs ≡ references_of decoded info.now) }
-        ensures places { OnOk result (length info.now.references ≡ 16) }
-    {
-        let mut pictures = [
-            None, None, None, None, None, None, None, None, None, None, None, None, None, None,
-            None, None,
-        ];
-        for place in 0..16 {
-            pictures[place] = self.reference(&info.references[place])?;
-        }
-        Ok(Refs { pictures })
-    }
-
-    // The picture that an entry names; None where it names none.
-    fn reference(&self, entry: &Reference) -> Result<Option<Arc<Picture>>, AllocError>
-        requires { HasNumber entry.now }
-        ensures { IfOk result (λ held. (decoded : List Decoded) → AreKept self.now decoded → option_map arc_value held ≡ reference_of decoded entry.now) }
-    {
-        if entry.is_unused() || entry.is_absent() {
-            return Ok(None);
-        }
-        match &self.pictures[entry.surface as usize] {
-            Some(picture) => Ok(Some(picture.clone()?)),
-            None => Ok(None),
-        }
+        PictureBuffer::new(self.alloc, size)
     }
 }

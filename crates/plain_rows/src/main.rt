@@ -22,7 +22,7 @@
 //!     destroy_mixer M                              done
 //!     mix CALLER M STRUCTURE V O                   done: the job runs from then on
 //!     render CALLER C V NUMBER BYTE                done: the samples are this byte. A number up to 4 has a fault of its own
-//!                                                  (src/pictures.rt), a greater one is the name of a reference
+//!                                                  (call_lines::pictures), a greater one is the name of a reference
 //!     end CALLER PLACE                             the job that was begun at this place of the history ends
 //!     queue D WINDOW                               a queue's name
 //!     queues D COUNT                               so many queues: the last answer
@@ -44,12 +44,9 @@
 #![tactic(auto)]
 
 mod desk;
-mod line;
-mod pictures;
-mod told;
 
+use call_lines::Line;
 use desk::Desk;
-use line::Line;
 use std::io;
 
 fn main(rt: HostRuntime) -> io::Result<()> {

@@ -131,6 +131,20 @@ impl Queues {
         })
     }
 
+    /// The queue's oldest entry, if its time has come: the one that a tick at this time takes.
+    pub fn due(&self, queue: u32, time: u64) -> Option<Entry>
+        requires { queue < 64 }
+        ensures { result ≡ option_map entry_of (due (queue_at self.now queue) time) }
+    {
+        let node = self.links.first(queue)?;
+        let earliest = self.links.value(node);
+        if time < earliest {
+            return None;
+        }
+        let object = self.objects[self.links.holder(node) as usize];
+        Some(Entry { object, earliest })
+    }
+
     /// Whether some queue has an entry of the holder's surface.
     pub fn queued(&self, holder: u32) -> bool
         requires { holder < 5184 }

@@ -34,6 +34,7 @@ impl Desk {
             "display" => Some(self.fill(first, second, third, 1)),
             "fill" => Some(self.fill(first, second, third, fourth)),
             "flood" => Some(self.flood(first, second)),
+            "due" => Some(self.due(first, second)),
             "tick" => Some(self.tick(first, second)),
             "status" => Some(self.status(first)),
             "oldest" => Some(self.oldest(first)),
@@ -73,6 +74,13 @@ impl Desk {
             self.fill(queue, surface, time, MAX_ENTRIES);
         }
         Answer::Linked(self.queues.linked())
+    }
+
+    fn due(&self, queue: u64, time: u64) -> Answer {
+        if queue >= QUEUES {
+            return Answer::OutOfRange;
+        }
+        Answer::Taken(self.queues.due(queue as u32, time))
     }
 
     fn tick(&mut self, queue: u64, time: u64) -> Answer {

@@ -2,10 +2,10 @@ use Rattle.std.proofs.Common.{◌≡◌, refl, ap, ◌∙◌}
 use Rattle.std.specs.List.{remove}
 use Rattle.driver_objects.specs.Kept.{kept_of, made_of}
 use Rattle.driver_objects.specs.Listed.{destroyed as destroyed_object}
+use Rattle.driver_objects.proofs.Lists.{get_set_same}
+use Rattle.driver_objects.proofs.Removed.{remove_set}
 use Rattle.driver_core.proofs.GoneSound.{gone_sound}
 use Rattle.driver_core.proofs.GoneStands.{gone_stands}
-use Rattle.driver_core.proofs.Lists.{get_set_same}
-use Rattle.driver_core.proofs.Removed.{remove_set}
 use Rattle.driver_core.proofs.driver.Core.destroy.Goals as goal
 
 pub forget-requires : goal.forget-requires

@@ -6,8 +6,8 @@ use Rattle.driver_model.specs.Creates.{device_create, handles_full, is_full, liv
 use Rattle.driver_model.specs.Objects as model
 use Rattle.driver_model.specs.Refusals.{refused_if, ◌>>◌}
 use Rattle.driver_model.specs.declared.numbers.TheConstants as number
+use Rattle.driver_objects.specs.Kinds.{is_device}
 use Rattle.driver_objects.specs.declared.content.Content.TheVariants as content
-use Rattle.driver_core.specs.Kinds.{is_device}
 use Rattle.driver_core.proofs.Creating.{created}
 use Rattle.driver_core.proofs.Live.{devices_agree, live_all, live_counted}
 use Rattle.driver_core.proofs.Steps.{refusing}

@@ -7,8 +7,8 @@ use Rattle.driver_model.specs.Objects as model
 use Rattle.driver_model.specs.declared.numbers.TheConstants as number
 use Rattle.driver_objects.specs.Kept.{kept_of, made_of}
 use Rattle.driver_objects.specs.Listed.{IsOnly, called}
+use Rattle.driver_objects.specs.Swept.{is_wanted}
 use Rattle.driver_objects.proofs.Searched.{place_is_one}
-use Rattle.driver_core.specs.Swept.{is_wanted}
 use Rattle.driver_core.proofs.EndedSound.{QueuesEnd, ended_sound, ended_within, swept}
 use Rattle.driver_core.proofs.EndedStands.{ended_stands}
 use Rattle.driver_core.proofs.Handles.{called_within}

@@ -5,12 +5,12 @@ use Rattle.driver_model.specs.States.{named}
 use Rattle.driver_model.proofs.Named.{found_of}
 use Rattle.driver_model.specs.declared.numbers.TheConstants as number
 use Rattle.driver_objects.specs.Kept.{kept_of}
+use Rattle.driver_objects.specs.Kinds.{number_of}
 use Rattle.driver_objects.specs.declared.object.Object.{Object}
-use Rattle.driver_core.specs.Kinds.{number_of}
+use Rattle.driver_objects.proofs.Lists.{one_kept}
 use Rattle.driver_core.proofs.Displaying.{display_sound, display_takes, live_called, presented_err, presented_ok, refused_takes}
 use Rattle.driver_core.proofs.Handles.{called_within, further_err, further_ok}
 use Rattle.driver_core.proofs.ModelKinds.{output_is, output_kind, output_other}
-use Rattle.driver_core.proofs.Named.{one_kept}
 use Rattle.driver_core.proofs.Presenting.{is_holder}
 use Rattle.driver_core.proofs.Steps.{refusing}
 use Rattle.driver_core.proofs.driver.Core.display.Goals as goal

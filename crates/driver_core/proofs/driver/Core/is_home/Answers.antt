@@ -2,7 +2,7 @@ use Rattle.std.proofs.Common.{not, ap, ◌∙◌}
 use Rattle.driver_model.specs.States.{is_out}
 use Rattle.driver_objects.specs.Kept.{kept_of}
 use Rattle.driver_objects.specs.declared.object.Object.{Object}
-use Rattle.driver_core.proofs.Named.{one_kept}
+use Rattle.driver_objects.proofs.Lists.{one_kept}
 use Rattle.driver_core.proofs.driver.Core.is_home.Goals as goal
 
 pub returns : goal.returns

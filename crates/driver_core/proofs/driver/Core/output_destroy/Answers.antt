@@ -2,12 +2,12 @@ use Rattle.std.proofs.Common.{ap, refl, sym, inr, ◌∙◌}
 use Rattle.std.specs.List.{filter}
 use Rattle.driver_model.specs.States.{destroyed}
 use Rattle.driver_objects.specs.Kept.{kept_of, made_of}
+use Rattle.driver_objects.specs.Kinds.{kind_number}
+use Rattle.driver_objects.specs.Swept.{is_wanted}
 use Rattle.driver_objects.specs.declared.object.Object.{Object}
+use Rattle.driver_objects.proofs.Lists.{one_kept}
 use Rattle.driver_objects.proofs.Searched.{place_is_one}
-use Rattle.driver_core.specs.Kinds.{kind_number}
-use Rattle.driver_core.specs.Swept.{is_wanted}
 use Rattle.driver_core.proofs.Destroying.{destroyed_within, output_gone_sound, output_gone_stands, output_number}
-use Rattle.driver_core.proofs.Named.{one_kept}
 use Rattle.driver_core.proofs.Steps.{finding}
 use Rattle.driver_core.proofs.driver.Core.output_destroy.Goals as goal
 

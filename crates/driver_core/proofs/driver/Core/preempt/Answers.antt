@@ -1,7 +1,7 @@
 use Rattle.std.proofs.Common.{true, ap, refl, sym, inr, ◌∙◌, arith}
 use Rattle.driver_model.specs.Objects as model
 use Rattle.driver_model.specs.States.{with_content}
-use Rattle.driver_core.specs.Kinds.{kind_number}
+use Rattle.driver_objects.specs.Kinds.{kind_number}
 use Rattle.driver_core.proofs.Steps.{finding, same_queues}
 use Rattle.driver_core.proofs.driver.Core.preempt.Goals as goal
 

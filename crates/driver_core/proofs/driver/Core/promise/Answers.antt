@@ -1,13 +1,13 @@
 use Rattle.std.proofs.Common.{inl, inr, ap, refl, ◌∙◌}
 use Rattle.driver_model.specs.Objects as model
 use Rattle.driver_model.specs.States.{with_content}
-use Rattle.driver_objects.specs.Kept.{kept_of, made_of}
-use Rattle.driver_objects.specs.declared.object.Object.{Object}
 use Rattle.present_queue.specs.Queue.{promised}
 use Rattle.present_queue.specs.Queues.{queue_at}
 use Rattle.present_queue.proofs.NameLemmas.{Names-promised}
-use Rattle.driver_core.specs.Kinds.{number_of}
-use Rattle.driver_core.proofs.Named.{one_kept}
+use Rattle.driver_objects.specs.Kept.{kept_of, made_of}
+use Rattle.driver_objects.specs.Kinds.{number_of}
+use Rattle.driver_objects.specs.declared.object.Object.{Object}
+use Rattle.driver_objects.proofs.Lists.{one_kept}
 use Rattle.driver_core.proofs.QueueSound.{queue_sound}
 use Rattle.driver_core.proofs.QueueStands.{names_promised}
 use Rattle.driver_core.proofs.QueueWrites.{queue_written}

@@ -4,9 +4,9 @@ use Rattle.driver_model.specs.Objects as model
 use Rattle.driver_model.specs.Queues.{emptied}
 use Rattle.driver_model.specs.States.{destroyed_with}
 use Rattle.driver_objects.specs.Kept.{kept_of, made_of}
+use Rattle.driver_objects.specs.Kinds.{number_of}
+use Rattle.driver_objects.specs.Swept.{is_wanted}
 use Rattle.driver_objects.proofs.Searched.{place_is_one}
-use Rattle.driver_core.specs.Kinds.{number_of}
-use Rattle.driver_core.specs.Swept.{is_wanted}
 use Rattle.driver_core.proofs.Destroying.{destroyed_within, queue_gone_sound, queue_gone_stands}
 use Rattle.driver_core.proofs.Steps.{finding}
 use Rattle.driver_core.proofs.driver.Core.queue_destroy.Goals as goal

@@ -3,7 +3,7 @@ use Rattle.std.proofs.lemmas.Option.{slice_get_read, slice_get_within}
 use Rattle.handle_table.specs.Handles.{lookup}
 use Rattle.driver_objects.specs.declared.object.Object.{Object}
 use Rattle.driver_objects.proofs.Changed.{destroyed_sound}
-use Rattle.driver_objects.proofs.Searched.{one_at}
+use Rattle.driver_objects.proofs.Lists.{one_kept}
 use Rattle.driver_objects.proofs.objects.Objects.destroy.Goals as goal
 
 pub invariant_of-self : goal.invariant_of-self
@@ -14,8 +14,8 @@ invariant_of-self c =
     let within = slice_get_within kept c.args.index c.requires.object c.requires.stands in
     let stands = slice_get_read kept _ c.args.index was refl within c.index.ensures in
     let writes = slice_get_read kept _ c.args.index c.index_mut.result.now refl within c.index_mut.ensures.value in
-    let same : c.index_mut.result.now ≡ was = one_at kept c.args.index c.index_mut.result.now was writes stands in
-    let live : was.is_live ≡ true = ap (λ (x : Object). x.is_live) (one_at kept c.args.index was c.requires.object stands c.requires.stands) ∙ c.requires.passes in
+    let same : c.index_mut.result.now ≡ was = one_kept kept c.args.index c.index_mut.result.now was writes stands in
+    let live : was.is_live ≡ true = ap (λ (x : Object). x.is_live) (one_kept kept c.args.index was c.requires.object stands c.requires.stands) ∙ c.requires.passes in
     rw same (record {
       sound = destroyed_sound o.names c.remove.new.self kept o.made o.sound c.args.index was stands live
           (rw (← c.kind.ensures) c.remove.ensures.updates)
@@ -27,5 +27,5 @@ pub returns-clause-now : goal.returns-clause-now
 returns-clause-now c object at =
     let kept = c.args.self.now.kept.items in
     let stands = slice_get_read kept _ c.args.index c.index_mut.result.now refl (slice_get_within kept c.args.index object at) c.index_mut.ensures.value in
-    let same = one_at kept c.args.index c.index_mut.result.now object stands at in
+    let same = one_kept kept c.args.index c.index_mut.result.now object stands at in
     rw same refl

@@ -2,7 +2,7 @@ use Rattle.std.proofs.Common.{refl, ap, ◌∙◌}
 use Rattle.std.proofs.lemmas.Option.{slice_get_read}
 use Rattle.driver_objects.specs.declared.object.Object.{Object}
 use Rattle.driver_objects.proofs.Changed.{replaced}
-use Rattle.driver_objects.proofs.Searched.{one_at}
+use Rattle.driver_objects.proofs.Lists.{one_kept}
 use Rattle.driver_objects.proofs.objects.Objects.replace.Goals as goal
 
 pub invariant_of-self : goal.invariant_of-self
@@ -15,10 +15,10 @@ invariant_of-self c =
 pub returns-clause-was : goal.returns-clause-was
 returns-clause-was c object at =
     let stands = slice_get_read c.args.self.now.kept.items _ c.args.index c.index_mut.result.now refl c.requires c.index_mut.ensures.value in
-    c.replace.ensures.value ∙ ap (λ (o : Object). o.content) (one_at c.args.self.now.kept.items c.args.index c.index_mut.result.now object stands at)
+    c.replace.ensures.value ∙ ap (λ (o : Object). o.content) (one_kept c.args.self.now.kept.items c.args.index c.index_mut.result.now object stands at)
 
 pub returns-clause-now : goal.returns-clause-now
 returns-clause-now c object at =
     let stands = slice_get_read c.args.self.now.kept.items _ c.args.index c.index_mut.result.now refl c.requires c.index_mut.ensures.value in
-    let same = one_at c.args.self.now.kept.items c.args.index c.index_mut.result.now object stands at in
+    let same = one_kept c.args.self.now.kept.items c.args.index c.index_mut.result.now object stands at in
     rw (c.replace.ensures.after, same) refl

@@ -1,4 +1,4 @@
-use Rattle.std.proofs.Common.{◌≡◌, ◌∙◌, ◌+◌, ◌-◌, ◌<◌, ℕ, Bool, true, false, cond, refl, arith, rules, sym, ap}
+use Rattle.std.proofs.Common.{◌≡◌, ◌∙◌, ◌+◌, ◌-◌, ◌<◌, ◌≤◌, ◌⊎◌, inl, inr, ℕ, Bool, true, false, cond, refl, arith, rules, sym, ap}
 use Rattle.vd_outside.specs.Shelf.{told}
 use Rattle.vdplay.proofs.ReadingLemmas.{answered, fed_all, hungry, reads_at, renewed}
 use Rattle.vdplay.proofs.file_reader.FileReader.next.Goals as goal
@@ -16,9 +16,19 @@ read-requires g c =
     let wants = hungry on.stream c.in_ok-step.step c.next.new.self (c.in_ok-step.ensures.step on.stream on.reads.decoder) c.in-Hungry.is in
     (on.stream, renewed c.loop-self.self _ _ _ on.stream on.reads wants.1 refl refl refl (ap (λ files. told files c.args.name.now) (sym c.loop-self.invariant.0)), wants.0)
 
-falls : (old new : ℕ) (ended : Bool) → old < new → new - 1 < 1073741824 → 1073741824 - new + cond ended 0 1 < 1073741824 - old + 1
-falls old new true up most = omega arith
-falls old new false up most = omega arith
+falls : (old new : ℕ) (was ended : Bool) → (old < new) ⊎ ((new ≡ old) × (ended ≡ true)) → was ≡ false → new ≤ 1073741824 → 1073741824 - new + cond ended 0 1 < 1073741824 - old + cond was 0 1
+falls old new true ended by open_ most = absurd (cc)
+falls old new false true by open_ most = elim by [ inl up ↦ omega (arith, up, most) | inr same ↦ let at = same.0 in omega (arith, at) ]
+falls old new false false by open_ most = elim by [ inl up ↦ omega (arith, up, most) | inr same ↦ let bad = same.1 in absurd (cc) ]
+
+pub loop-self-smaller : goal.loop-self-smaller
+loop-self-smaller g c =
+    let r = c.requires in
+    let on = c.loop-self.invariant.2 r.0 r.1 in
+    let wants = hungry on.stream c.in_ok-step.step c.next.new.self (c.in_ok-step.ensures.step on.stream on.reads.decoder) c.in-Hungry.is in
+    let here = renewed c.loop-self.self _ _ _ on.stream on.reads wants.1 refl refl refl (ap (λ files. told files c.args.name.now) (sym c.loop-self.invariant.0)) in
+    let more = c.in_ok-read-in-Hungry.ensures.reads on.stream here wants.0 in
+    falls c.loop-self.self.at c.read.new.self.at c.loop-self.self.ended c.read.new.self.ended c.in_ok-read-in-Hungry.ensures.further c.loop-self-test.true more.reads.most
 
 pub loop-self-preserved : goal.loop-self-preserved
 loop-self-preserved g c = (

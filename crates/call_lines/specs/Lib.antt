@@ -1,0 +1,4 @@
+pub mod Pictures
+pub mod Texts
+pub mod Wishes
+pub mod Words

@@ -1,6 +1,0 @@
-use Rattle.std.proofs.Common.{ap}
-use Rattle.driver_core.specs.Kinds.{number_of}
-use Rattle.driver_core.proofs.device_ends.clear.Goals as goal
-
-pub clear-requires : goal.clear-requires
-clear-requires c = c.requires c.in-Queue.queue.number (ap number_of c.in-Queue.is)

@@ -1,0 +1,12 @@
+pub mod FoundAfter
+pub mod Reading
+pub mod ReadBack
+pub mod Renamed
+pub mod Entries
+pub mod Looking
+pub mod Moving
+pub mod Deciding
+pub mod Decoded
+pub mod MakingFinds
+pub mod MakingAnswers
+pub mod MakingSteps

@@ -1,0 +1,4 @@
+pub mod Rest
+pub mod Renaming
+pub mod Buffers
+pub mod Making

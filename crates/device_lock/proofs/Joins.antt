@@ -10,7 +10,7 @@ use Rattle.device_lock.specs.declared.view.Account.{Account}
 use Rattle.device_lock.specs.declared.view.View.{View}
 use Rattle.device_lock.specs.declared.view.Turn.TheVariants.{Waiting, Holding, HasLogged}
 use Rattle.device_lock.specs.Lists.{At, Each}
-use Rattle.device_lock.specs.Views.{IsInTurn, with_item, split_left, split_right, joined_view, spent_view, shown_view, met_view}
+use Rattle.device_lock.specs.Views.{IsInTurn, with_item, split_left, split_right, joined_view, spent_view}
 use Rattle.device_lock.specs.Numbers.{Joined}
 use Rattle.device_lock.specs.Rule.{Queue, Past, Hold}
 use Rattle.device_lock.proofs.Places.{all_set, all_snoc, here_set, some_snoc, at_once}
@@ -46,18 +46,6 @@ module _ {I : Type 0} (at_rest : List I → Type 0) where
         (each_append (λ (a : Account I). at_rest a.own) v.joined (record { number = w.number; own = w.own } ∷ w.joined) (r.rests id v at) (still, r.rests other w there)) (λ j u _ a. r.rests j u a) j u a);
     met = all_set (λ _ u. IsPrefix u.met history) (set vs id b) other spent_view (history, refl)
         (λ j u _ a. all_set (λ _ u. IsPrefix u.met history) vs id b (by_length (λ long short. IsPrefix short history) v.seen w.seen (λ _. begun) (λ _. begun')) (λ j u _ a. r.met j u a) j u a);
-  }
-
-  pub joined_show : (vs : List (View I)) (history : List I) (v : View I) → Joined vs at_rest history → Joined (vs ++ shown_view v ∷ []) at_rest history
-  joined_show vs history v r = record {
-    rests = all_snoc (λ _ u. Each (λ a. at_rest a.own) u.joined) vs (shown_view v) (λ _. tt) r.rests;
-    met = all_snoc (λ _ u. IsPrefix u.met history) vs (shown_view v) (λ _. (history, refl)) r.met;
-  }
-
-  pub joined_meet : (vs : List (View I)) (id : ℕ) (history : List I) (v w : View I) → At vs id v → IsPrefix w.seen history → Joined vs at_rest history → Joined (set vs id (met_view v w)) at_rest history
-  joined_meet vs id history v w at begun r = record {
-    rests = all_set (λ _ u. Each (λ a. at_rest a.own) u.joined) vs id (met_view v w) (r.rests id v at) (λ j u _ a. r.rests j u a);
-    met = all_set (λ _ u. IsPrefix u.met history) vs id (met_view v w) begun (λ j u _ a. r.met j u a);
   }
 
 module _ {I : Type 0} where

@@ -13,18 +13,18 @@ use Rattle.atomic_table.specs.Table.{State, Me, Act, step, keeps, takes, gives, 
 use Rattle.device_lock.specs.declared.view.View.{View}
 use Rattle.device_lock.specs.declared.view.Turn.TheVariants.{Waiting, Holding, HasLogged}
 use Rattle.device_lock.specs.Lists.{At, Each}
-use Rattle.device_lock.specs.Views.{IsInTurn, IsAway, first_view, with_ticket, with_turn, with_item, without_turn, split_left, split_right, joined_view, spent_view, shown_view, met_view}
+use Rattle.device_lock.specs.Views.{IsInTurn, IsAway, first_view, with_ticket, with_turn, with_item, without_turn, split_left, split_right, joined_view, spent_view}
 use Rattle.device_lock.specs.Rule.{Queue, Hold, Rule}
-use Rattle.device_lock.specs.Steps.{drew, looked, logs, learned, told, served}
+use Rattle.device_lock.specs.Steps.{drew, looked, logs, learned, served}
 use Rattle.device_lock.proofs.Places.{here_set}
 use Rattle.device_lock.specs.Lists.{same}
 use Rattle.device_lock.specs.Views.{numbers}
 use Rattle.device_lock.specs.Numbers.{Keeps}
 use Rattle.device_lock.proofs.Callers.{no_longer}
 use Rattle.device_lock.proofs.Sums.{by_bool, prefix_self, prefix_shorter}
-use Rattle.device_lock.proofs.Numbered.{numbers_stay, numbers_log, numbers_split, numbers_show, numbers_hide, numbers_join, knows, of_one_history}
-use Rattle.device_lock.proofs.Joins.{joined_stay, joined_log, joined_split, joined_join, joined_show, joined_meet, queue_more, past_more, hold_more, past_join}
-use Rattle.device_lock.proofs.Turns.{queue_draws, queue_stays, queue_serves, past_stays, past_logs, past_leaves, hold_stays, at_home, hold_takes, not_logged, hold_logs, hold_serves, home_after}
+use Rattle.device_lock.proofs.Numbered.{numbers_stay, numbers_log, numbers_split, numbers_join, knows}
+use Rattle.device_lock.proofs.Joins.{joined_stay, joined_log, joined_split, joined_join, queue_more, past_more, hold_more, past_join}
+use Rattle.device_lock.proofs.Turns.{queue_draws, queue_stays, queue_serves, past_stays, past_logs, hold_stays, at_home, hold_takes, not_logged, hold_logs, hold_serves, home_after}
 
 -- what is so of the item that is named
 pub named : {I : Type 0} (P Q : I → Type 0) (item : Option I) → IsSome item → IfSome item P → IfSome item Q → (x : I) × (item ≡ Some x) × P x × Q x
@@ -70,7 +70,7 @@ module _ {I T : Type 0} (caller : I → List ℕ) (stands : T → List I → Typ
           queue = subst (λ (k : ℕ). Queue (set s.views id (with_ticket v k)) (r.next + 1) r.serving) (sym is) (queue_draws s.views id r.next r.serving v at away.0 (omega arith) r.queue);
           past = past_stays stands s.views id r.logged r.history v w at refl (inl refl) r.past;
           hold = hold_stays stands s.views s.homes id r.next r.serving r.logged r.history v at r.queue r.hold w away.1 away.1;
-          numbers = numbers_stay caller s.views id r.history v v.seen (Some x) v.turn v.met at (inl refl) r.numbers;
+          numbers = numbers_stay caller s.views id r.history v v.seen (Some x) v.turn at (inl refl) r.numbers;
           joined = joined_stay at_rest s.views id r.history v w at refl refl r.joined;
         },
         ((λ _. refl), λ ne. absurd (ne e)),
@@ -86,7 +86,7 @@ module _ {I T : Type 0} (caller : I → List ℕ) (stands : T → List I → Typ
   pub looks : (slots id t : ℕ) (m : Sat) → m.0.ticket ≡ Some t → m.0.turn ≡ Waiting → m.0.spent ≡ false → Allows (Rule caller stands at_rest) slots id m 1 (λ x. x) (looked caller stands (step slots 1 0 0 none) m)
   looks slots id t m mine idle live s r _ at _ = let x : ℕ = get_or s.words 1 0 in let v : View I = m.0 in let is : x ≡ r.serving = word_is s r 1 in dite (ℕ_discrete x t)
       (λ e. let served : v.ticket ≡ Some r.serving = mine ∙ ap (λ (k : ℕ). Some k) (sym e ∙ is) in let w : View I = with_turn v r.history in
-      let numbers = numbers_stay caller s.views id r.history v r.history v.ticket Holding v.met at (inr refl) r.numbers in
+      let numbers = numbers_stay caller s.views id r.history v r.history v.ticket Holding at (inr refl) r.numbers in
       let home = at_home stands s.views s.homes id r.next r.serving r.logged r.history v at r.queue r.hold idle served in (
         w,
         takes 0 (Some home.0),
@@ -159,7 +159,7 @@ module _ {I T : Type 0} (caller : I → List ℕ) (stands : T → List I → Typ
         past = past_stays stands s.views id r.logged r.history v w at refl (inl refl) r.past;
         hold = subst (λ (hs : List (maybe.Option (Option T))). Hold (set s.views id w) stands hs (r.serving + 1) r.logged r.history) (sym homes_are)
             (hold_serves stands s.views s.homes id r.next r.serving r.logged r.history v at q r.hold y busy legal);
-        numbers = numbers_stay caller s.views id r.history v v.seen None Waiting v.met at (inl refl) r.numbers;
+        numbers = numbers_stay caller s.views id r.history v v.seen None Waiting at (inl refl) r.numbers;
         joined = joined_stay at_rest s.views id r.history v w at refl refl r.joined;
       }
 
@@ -264,42 +264,3 @@ module _ {I T : Type 0} (caller : I → List ℕ) (stands : T → List I → Typ
         numbers = numbers_join caller s.views id other r.history v w at ne there' away.2 away'.2 begun begun' r.numbers;
         joined = joined_join at_rest s.views id other r.history v w at there begun begun' still r.joined;
       }
-
-  -- What a pass has seen is shown by a new seat.
-  pub shows : (id : ℕ) (v : View I) → Splits (Rule caller stands at_rest) id v v (shown_view v)
-  shows id v s r at = let u : View I = shown_view v in subst (λ (vs : List (View I)). Rule caller stands at_rest record { words = s.words; homes = s.homes; views = vs ++ u ∷ [] }) (sym (set_again s.views id v at)) record {
-    next = r.next;
-    serving = r.serving;
-    logged = r.logged;
-    history = r.history;
-    words = r.words;
-    queue = queue_more s.views r.next r.serving u refl r.queue;
-    past = past_more stands s.views r.logged r.history u (r.past.begun id v at) r.past;
-    hold = hold_more stands s.views s.homes r.serving r.logged r.history u refl r.hold;
-    numbers = numbers_show caller s.views r.history v r.numbers;
-    joined = joined_show at_rest s.views r.history v r.joined;
-  }
-
-  -- A pass meets what the pass u has seen.
-  pub meets : (id : ℕ) (v : View I) (other : ℕ) (u : View I) → IsAway v → Joins (Rule caller stands at_rest) id v other (shown_view u) (met_view v (shown_view u)) spent_view
-  meets id v other u away s r at ne there' = let w : View I = shown_view u in let b : View I = met_view v w in let vs : List (View I) = set s.views id b in let there : At s.views other w = sym (set_else s.views id other b ne) ∙ there' in
-      let q = queue_stays s.views id r.next r.serving v b at refl r.queue in
-      let h = hold_stays stands s.views s.homes id r.next r.serving r.logged r.history v at r.queue r.hold b away.1 away.1 in record {
-        next = r.next;
-        serving = r.serving;
-        logged = r.logged;
-        history = r.history;
-        words = r.words;
-        queue = queue_stays vs other r.next r.serving w spent_view there' refl q;
-        past = past_leaves stands vs other r.logged r.history w there' refl (past_stays stands s.views id r.logged r.history v b at refl (inl refl) r.past);
-        hold = hold_stays stands vs s.homes other r.next r.serving r.logged r.history w there' q h spent_view refl refl;
-        numbers = numbers_hide caller vs other r.history u there' (numbers_stay caller s.views id r.history v v.seen v.ticket v.turn w.seen at (inl refl) r.numbers);
-        joined = joined_stay at_rest vs other r.history w spent_view there' refl refl (joined_meet at_rest s.views id r.history v w at (r.past.begun other w there) r.joined);
-      }
-
-  pub meets_shown : (id : ℕ) (v : View I) (other : ℕ) (w u : View I) → IsAway v → w ≡ shown_view u → Joins (Rule caller stands at_rest) id v other w (met_view v w) spent_view
-  meets_shown id v other w u away e = subst (λ (w : View I). Joins (Rule caller stands at_rest) id v other w (met_view v w) spent_view) (sym e) (meets id v other u away)
-
-  -- A look tells a pass of what it has met.
-  pub tells : (slots id : ℕ) (m : Sat) → m.0.spent ≡ false → Allows (Rule caller stands at_rest) slots id m 2 (λ x. x) (told caller (step slots 2 0 0 none) m)
-  tells slots id m live s r _ at _ = let v : View I = m.0 in (v, keeps, tt, unmoved s r 2 id m at, (refl, of_one_history caller s.views id r.history v.met v at live (r.past.begun id v at) (r.joined.met id v at) r.numbers))

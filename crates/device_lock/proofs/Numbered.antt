@@ -1,5 +1,5 @@
 -- What the rule says of numbers, own lists and shares, after a step.
-use Rattle.std.proofs.Common.{◌≡◌, ℕ, ◌+◌, ◌-◌, ◌*◌, ◌^◌, ◌<◌, ◌≤◌, ◌≢◌, ◌⊎◌, Bool, true, false, if◌then◌else◌, List, [], ◌∷◌, ◌++◌, filter, map, set, Option, sym, refl, ap, ◌∙◌, subst, ⊎_elim, arith, le_refl}
+use Rattle.std.proofs.Common.{◌≡◌, ℕ, ◌+◌, ◌-◌, ◌*◌, ◌^◌, ◌<◌, ◌≤◌, ◌≢◌, ◌⊎◌, Bool, true, false, if◌then◌else◌, List, [], ◌∷◌, ◌++◌, map, set, Option, sym, refl, ap, ◌∙◌, subst, ⊎_elim, arith, le_refl}
 use mathlib.Core.Logic.{dite}
 use mathlib.Core.List.{IsPrefix, append-nil, map-append}
 use native.Mathlib.Decide.{ℕ_discrete}
@@ -7,15 +7,14 @@ use Rattle.device_lock.specs.declared.view.Account.{Account}
 use Rattle.device_lock.specs.declared.view.View.{View}
 use Rattle.device_lock.specs.declared.view.Turn.{Turn}
 use Rattle.device_lock.specs.Lists.{At, Each, total, same, times}
-use Rattle.device_lock.specs.Views.{IsWhole, numbers, with_item, split_left, split_right, joined_view, spent_view, shown_view, met_view}
-use Rattle.device_lock.specs.Numbers.{items_of, Keeps, Knows, HasNoneToCome, AreOfOneHistory, places, shares, Numbers}
+use Rattle.device_lock.specs.Views.{IsWhole, numbers, with_item, split_left, split_right, joined_view, spent_view}
+use Rattle.device_lock.specs.Numbers.{items_of, Keeps, Knows, places, shares, Numbers}
 use Rattle.device_lock.proofs.Places.{all_set, all_snoc, here_set, all_unset, pairs_set, pairs_snoc}
 use Rattle.atomic_table.proofs.Lists.{at_longer, set_else}
 use Rattle.std.proofs.lemmas.Nat.{pow_pos}
-use Rattle.std.proofs.lemmas.List.Elements.{filter-append}
 use Rattle.std.proofs.Math.Nat.{mul-pos}
 use Rattle.device_lock.proofs.Parts.{half_part, both_part, whole_part}
-use Rattle.device_lock.proofs.Sums.{by_bool, total_set, total_append, part_of, two_of, total_none, total_one, each_map, each_zip, each_append, prefix_shorter, prefix_either, by_length}
+use Rattle.device_lock.proofs.Sums.{by_bool, total_set, total_append, part_of, two_of, total_none, total_one, each_map, each_zip, each_append, prefix_shorter, by_length}
 use Rattle.device_lock.proofs.Callers.{same_self, same_is, not_same, times_none, times_here, items_mine, items_other, items_between, not_among, prefix_snoc, snoc_is, no_longer, prefix_front}
 
 module _ {I : Type 0} where
@@ -30,10 +29,10 @@ module _ {I : Type 0} where
   Stays v w = (w.number ≡ v.number) × (w.splits ≡ v.splits) × (w.joined ≡ v.joined) × (w.share ≡ v.share) × (w.spent ≡ v.spent)
 
 module _ {I : Type 0} (caller : I → List ℕ) where
-  -- What was seen, the ticket, the turn and what was met may change.
-  pub numbers_stay : (vs : List (View I)) (id : ℕ) (history : List I) (v : View I) (h : List I) (o : Option ℕ) (t : Turn) (met : List I) → At vs id v → (h ≡ v.seen) ⊎ (h ≡ history)
-      → Numbers vs caller history → Numbers (set vs id (record v { seen = h; ticket = o; turn = t; met = met })) caller history
-  numbers_stay vs id history v h o t met at new n = let w : View I = record v { seen = h; ticket = o; turn = t; met = met } in record {
+  -- What was seen, the ticket and the turn may change.
+  pub numbers_stay : (vs : List (View I)) (id : ℕ) (history : List I) (v : View I) (h : List I) (o : Option ℕ) (t : Turn) → At vs id v → (h ≡ v.seen) ⊎ (h ≡ history)
+      → Numbers vs caller history → Numbers (set vs id (record v { seen = h; ticket = o; turn = t })) caller history
+  numbers_stay vs id history v h o t at new n = let w : View I = record v { seen = h; ticket = o; turn = t } in record {
     one_place = λ c. let s = places_same vs id v w c at refl in let m = n.one_place c in omega arith;
     kept = all_set (λ _ u. u.spent ≡ false → Keeps caller u history × Keeps caller u u.seen) vs id w
         (λ live. let k = n.kept id v at live in (k.0, ⊎_elim (λ (e : h ≡ v.seen). subst (Keeps caller v) (sym e) k.1) (λ (e : h ≡ history). subst (Keeps caller v) (sym e) k.0) new))
@@ -137,37 +136,6 @@ module _ {I : Type 0} (caller : I → List ℕ) where
             (all_set (λ _ u. u.spent ≡ false → 0 < u.share.parts) vs id l (n.some_share id v at) (λ j u _ there. n.some_share j u there));
       }
 
-  -- What a pass has seen is shown.
-  pub numbers_show : (vs : List (View I)) (history : List I) (v : View I) → Numbers vs caller history → Numbers (vs ++ shown_view v ∷ []) caller history
-  numbers_show vs history v n = let s : View I = shown_view v in let ws : List (View I) = vs ++ s ∷ [] in
-      let F : View I → View I → Type 0 = λ u z. u.spent ≡ false → Each (λ c. (m : ℕ) → u.splits ≤ m → ¬ IsPrefix (u.number ++ m ∷ []) c) (numbers z) in
-      let same_places : (c : List ℕ) → places ws c ≡ places vs c = λ c. total_append (λ u. times c (numbers u)) vs (s ∷ []) ∙ omega arith in record {
-        one_place = λ c. let p = same_places c in let m = n.one_place c in omega arith;
-        kept = all_snoc (λ _ u. u.spent ≡ false → Keeps caller u history × Keeps caller u u.seen) vs s (λ _ e. absurd (cc (e))) n.kept;
-        others = λ c none. n.others c (sym (same_places c) ∙ none);
-        fresh = pairs_snoc F vs s (λ e. absurd (cc (e))) (λ k z _ e. absurd (cc (e))) (λ j u _ _. tt) n.fresh;
-        at_most_whole = λ e small. let f : View I → ℕ = λ u. u.share.parts * 2 ^ (e - u.share.halvings) in
-            let m = n.at_most_whole e (λ j u there. small j u (at_longer vs (s ∷ []) j u there)) in
-            let sum : total f ws ≡ total f vs + (f s + 0) = total_append f vs (s ∷ []) in
-            let none : f s ≡ 0 = omega arith in omega arith;
-        some_share = all_snoc (λ _ u. u.spent ≡ false → 0 < u.share.parts) vs s (λ _ e. absurd (cc (e))) n.some_share;
-      }
-
-  -- What was shown is taken away.
-  pub numbers_hide : (vs : List (View I)) (id : ℕ) (history : List I) (v : View I) → At vs id (shown_view v) → Numbers vs caller history → Numbers (set vs id spent_view) caller history
-  numbers_hide vs id history v at n = let s : View I = spent_view in let w : View I = shown_view v in
-      let F : View I → View I → Type 0 = λ u z. u.spent ≡ false → Each (λ c. (m : ℕ) → u.splits ≤ m → ¬ IsPrefix (u.number ++ m ∷ []) c) (numbers z) in record {
-        one_place = λ c. let p = places_same vs id w s c at refl in let m = n.one_place c in omega arith;
-        kept = all_set (λ _ u. u.spent ≡ false → Keeps caller u history × Keeps caller u u.seen) vs id s (λ e. absurd (cc (e))) (λ j u _ there. n.kept j u there);
-        others = λ c none. n.others c (sym (places_same vs id w s c at refl) ∙ none);
-        fresh = pairs_set F vs id s (λ e. absurd (cc (e))) (λ k z _ a e. absurd (cc (e))) (λ j u _ a _. tt) (λ j k u z _ _ a b. n.fresh j k u z a b);
-        at_most_whole = λ e small. let f : View I → ℕ = λ u. u.share.parts * 2 ^ (e - u.share.halvings) in
-            let m = n.at_most_whole e (all_unset (λ u. u.share.halvings ≤ e) vs id w s at (λ le. le) small) in
-            let sum : total f (set vs id s) + f w ≡ total f vs + f s = total_set f vs id w s at in
-            let same_part : f w ≡ f s = refl in omega arith;
-        some_share = all_set (λ _ u. u.spent ≡ false → 0 < u.share.parts) vs id s (λ e. absurd (cc (e))) (λ j u _ there. n.some_share j u there);
-      }
-
   numbers_both : (v w : View I) → v.spent ≡ false → w.spent ≡ false → numbers (joined_view v w) ≡ numbers v ++ numbers w
   numbers_both v w live live' = numbers_live (joined_view v w) live ∙ (ap (λ (ns : List (List ℕ)). v.number ∷ ns) (map-append (λ (a : Account I). a.number) v.joined (record { number = w.number; own = w.own } ∷ w.joined))
       ∙ λ k. sym (numbers_live v live) k ++ sym (numbers_live w live') k)
@@ -260,43 +228,3 @@ module _ {I : Type 0} (caller : I → List ℕ) where
   -- A beginning of the history has only numbers that were given.
   pub are_given : (vs : List (View I)) (history xs : List I) → IsPrefix xs history → Numbers vs caller history → Each (λ x. 0 < places vs (caller x)) xs
   are_given vs history xs begun n = stray_from (λ c. places vs c) xs (λ c none. items_between caller c [] xs history [] (xs, refl) begun refl (n.others c none))
-
-  -- So it has none that a pass is still to give.
-  none_to_come : (vs : List (View I)) (id : ℕ) (history xs : List I) (v : View I) → At vs id v → v.spent ≡ false → IsPrefix xs history → Numbers vs caller history → HasNoneToCome caller v xs
-  none_to_come vs id history xs v at live begun n =
-      each_map (λ x. 0 < places vs (caller x)) (λ x. (m : ℕ) → v.splits ≤ m → ¬ IsPrefix (v.number ++ m ∷ []) (caller x))
-      (λ x some_place m le p. let none : places vs (caller x) ≡ 0 = total_none (λ u. times (caller x) (numbers u)) vs
-      (λ j u there. not_among (caller x) (numbers u) (each_map (λ c. (k : ℕ) → v.splits ≤ k → ¬ IsPrefix (v.number ++ k ∷ []) c) (λ c. c ≢ caller x)
-      (λ c f e. f m le (subst (IsPrefix (v.number ++ m ∷ [])) (sym e) p)) (numbers u) (n.fresh id j v u at there live))) in omega arith)
-      xs (are_given vs history xs begun n)
-
-  -- The items of a number that stand in a beginning of the history are the first of those that it has in all.
-  starts_of : (c : List ℕ) (history xs own : List I) → IsPrefix xs history → items_of caller c history ≡ own → IsPrefix (items_of caller c xs) own
-  starts_of c history xs own p kept = let P : I → Bool = λ x. same c (caller x) in (filter P p.0, sym (filter-append P xs p.0) ∙ (ap (filter P) p.1 ∙ kept))
-
-  -- What the rule tells a pass of another beginning of the history.
-  pub of_one_history : (vs : List (View I)) (id : ℕ) (history xs : List I) (v : View I) → At vs id v → v.spent ≡ false → IsPrefix v.seen history → IsPrefix xs history → Numbers vs caller history → AreOfOneHistory caller v xs
-  of_one_history vs id history xs v at live begun other n = let k = n.kept id v at live in record {
-    beginnings = prefix_either v.seen xs history begun other;
-    own = k.1;
-    in_order = (
-      starts_of v.number history xs v.own other k.0.0,
-      each_map (λ a. items_of caller a.number history ≡ a.own) (λ a. IsPrefix (items_of caller a.number xs) a.own) (λ a is. starts_of a.number history xs a.own other is) v.joined k.0.1,
-    );
-    all = λ p. raised v xs history p other k.1 k.0;
-    given = (none_to_come vs id history v.seen v at live begun n, none_to_come vs id history xs v at live other n);
-  }
-
-  -- What a pass is told of what it has met, it is told of what the other pass u has seen.
-  of_met : (v w : View I) → AreOfOneHistory caller (met_view v w) w.seen → AreOfOneHistory caller v w.seen
-  of_met v w h = record { beginnings = h.beginnings; own = h.own; in_order = h.in_order; all = h.all; given = h.given }
-
-  pub of_shown : (v w u m : View I) → m ≡ met_view v w → w ≡ shown_view u → AreOfOneHistory caller m m.met → AreOfOneHistory caller v u.seen
-  of_shown v w u m met shown h = subst (λ (w : View I). AreOfOneHistory caller v w.seen) shown (of_met v w (subst (λ (m : View I). AreOfOneHistory caller m m.met) met h))
-
-  met_of : (v w : View I) (xs : List I) → AreOfOneHistory caller v xs → AreOfOneHistory caller (met_view v w) xs
-  met_of v w xs h = record { beginnings = h.beginnings; own = h.own; in_order = h.in_order; all = h.all; given = h.given }
-
-  -- Two passes that have met are of one history still.
-  pub both_met : (v w v' w' : View I) → v' ≡ met_view v w → w' ≡ met_view w v → AreOfOneHistory caller v w.seen → AreOfOneHistory caller v' w'.seen
-  both_met v w v' w' e f h = subst (λ (p : View I × View I). AreOfOneHistory caller p.0 p.1.seen) (λ k. (sym e k, sym f k)) (met_of v w w.seen h)

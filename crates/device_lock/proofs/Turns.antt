@@ -1,5 +1,5 @@
 -- What the rule says of tickets, of the history and of the value, after one seat's view was changed.
-use Rattle.std.proofs.Common.{◌≡◌, ℕ, ◌+◌, ◌^◌, ◌<◌, ◌≤◌, ◌≢◌, ◌⊎◌, inl, inr, true, false, List, [], ◌∷◌, ◌++◌, set, Option, Some, None, sym, refl, ap, ◌∙◌, subst, ⊎_elim, arith, append_assoc, length-append}
+use Rattle.std.proofs.Common.{◌≡◌, ℕ, ◌+◌, ◌^◌, ◌<◌, ◌≤◌, ◌≢◌, ◌⊎◌, inl, inr, false, List, [], ◌∷◌, ◌++◌, set, Option, Some, None, sym, refl, ap, ◌∙◌, subst, ⊎_elim, arith, append_assoc, length-append}
 use mathlib.Core.Logic.{dite}
 use mathlib.Core.List.{IsPrefix, append-nil}
 use mathlib.Core.Option.{none, some}
@@ -10,7 +10,7 @@ use Rattle.device_lock.specs.declared.view.View.{View}
 use Rattle.device_lock.specs.declared.view.Turn.{Turn}
 use Rattle.device_lock.specs.declared.view.Turn.TheVariants.{Waiting, Holding, HasLogged}
 use Rattle.device_lock.specs.Lists.{At}
-use Rattle.device_lock.specs.Views.{IsInTurn, with_ticket, with_turn, with_item, without_turn, spent_view}
+use Rattle.device_lock.specs.Views.{IsInTurn, with_ticket, with_turn, with_item, without_turn}
 use Rattle.device_lock.specs.Rule.{Queue, Past, Hold}
 use Rattle.device_lock.proofs.Places.{all_set, here_set, some_set, at_once}
 
@@ -91,15 +91,6 @@ module _ {I T : Type 0} (stands : T → List I → Type 0) where
     begun = all_set (λ _ u. IsPrefix u.seen (history ++ x ∷ [])) vs id w ([], append-nil w.seen ∙ longer)
         (λ j u _ there. let b = p.begun j u there in (b.0 ++ x ∷ [], sym (append_assoc u.seen b.0 (x ∷ [])) ∙ ap (λ (l : List I). l ++ x ∷ []) b.1));
     longest = (id, w, here_set vs id v w at, (live, longer));
-  }
-
-  -- A seat that was spent leaves nothing.
-  pub past_leaves : (vs : List (View I)) (id logged : ℕ) (history : List I) (v : View I) → At vs id v → v.spent ≡ true → Past vs stands logged history → Past (set vs id spent_view) stands logged history
-  past_leaves vs id logged history v at gone p = record {
-    counted = p.counted;
-    legal = p.legal;
-    begun = all_set (λ _ u. IsPrefix u.seen history) vs id spent_view (history, refl) (λ j u _ there. p.begun j u there);
-    longest = some_set (λ (u : View I). (u.spent ≡ false) × (u.seen ≡ history)) vs id v spent_view at (λ (e : (v.spent ≡ false) × (v.seen ≡ history)). let no : true ≡ false = sym gone ∙ e.0 in absurd (cc (no))) p.longest;
   }
 
   module _ (vs : List (View I)) (homes : List (maybe.Option (Option T))) (id next serving logged : ℕ) (history : List I) (v : View I) (at : At vs id v) (q : Queue vs next serving)

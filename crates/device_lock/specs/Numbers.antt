@@ -1,5 +1,5 @@
 -- Whose items they are.
-use Rattle.std.specs.Prelude.{◌≡◌, ◌⊎◌, ℕ, ◌-◌, ◌*◌, ◌^◌, ◌<◌, ◌≤◌, false, List, [], ◌∷◌, ◌++◌, filter}
+use Rattle.std.specs.Prelude.{◌≡◌, ℕ, ◌-◌, ◌*◌, ◌^◌, ◌<◌, ◌≤◌, false, List, [], ◌∷◌, ◌++◌, filter}
 use mathlib.Core.List.{IsPrefix}
 use Rattle.device_lock.specs.Lists.{At, Each, total, same, times}
 use Rattle.device_lock.specs.Views.{numbers, IsWhole}
@@ -22,27 +22,6 @@ module _ {I : Type 0} (caller : I → List ℕ) where
   -- share, and that with the whole share all items are kept by it.
   abbrev pub Knows : View I → Type 0
   Knows v = Keeps v v.seen × (0 < v.share.parts) × (IsWhole v.share → AreKept v v.seen)
-
-  -- The items of a pass's number, and of each number joined into it, are in this list the first of those that were logged
-  -- with it, in that order.
-  abbrev pub Starts : View I → List I → Type 0
-  Starts v xs = IsPrefix (items_of v.number xs) v.own × Each (λ a. IsPrefix (items_of a.number xs) a.own) v.joined
-
-  -- None of the items has a number that is still to be split off the pass, or off such a number.
-  abbrev pub HasNoneToCome : View I → List I → Type 0
-  HasNoneToCome v = Each (λ x. (n : ℕ) → v.splits ≤ n → ¬ IsPrefix (v.number ++ n ∷ []) (caller x))
-
-  -- What a pass v of a lock and what another pass of it has seen are of one history.
-  pub record AreOfOneHistory (v : View I) (seen : List I) : Type 0 where
-    -- One of the two has seen a beginning of what the other has seen.
-    pub beginnings : IsPrefix v.seen seen ⊎ IsPrefix seen v.seen
-    -- What v has seen of its own items is all of them, in its order.
-    pub own : Keeps v v.seen
-    -- What the other has seen of v's items is in v's order, and it is all of them where the other has seen all that v has.
-    pub in_order : Starts v seen
-    pub all : IsPrefix v.seen seen → Keeps v seen
-    -- No item has a number that v has not given yet.
-    pub given : HasNoneToCome v v.seen × HasNoneToCome v seen
 
 module _ {I : Type 0} (views : List (View I)) where
   -- at how many places the number stands
@@ -72,5 +51,5 @@ module _ {I : Type 0} (views : List (View I)) where
     pub record Joined (history : List I) : Type 0 where
       -- Each own list kept in a `joined` is at rest.
       pub rests : (j : ℕ) (v : View I) → At views j v → Each (λ a. at_rest a.own) v.joined
-      -- What a pass has met is a beginning of the history too.
+      -- The shorter of the two histories that met in a join is a beginning of the history too.
       pub met : (j : ℕ) (v : View I) → At views j v → IsPrefix v.met history

@@ -2,7 +2,7 @@
 use Rattle.std.specs.Prelude.{◌≡◌, ◌≢◌, ℕ, ◌≤◌, List, [], ◌∷◌, length, Option, Some}
 use mathlib.Core.List.{IsPrefix}
 use Rattle.atomic_table.specs.Table.{Me, Step}
-use Rattle.device_lock.specs.Numbers.{Knows, AreOfOneHistory}
+use Rattle.device_lock.specs.Numbers.{Knows}
 use Rattle.device_lock.specs.Views.{with_ticket, with_turn, with_item, without_turn}
 use Rattle.device_lock.specs.declared.view.View.{View}
 
@@ -24,13 +24,9 @@ module _ {T I : Type 0} where
     abbrev pub logs : Option I → Step (Option T) → Me (Option T) (View I) → ℕ → Me (Option T) (View I) → Type 0
     logs item s m found m' = (x : I) → item ≡ Some x → (m' ≡ (with_item m.0 x, [])) × (found ≡ length m.0.seen) × Knows caller m'.0
 
-    -- A look at how much was logged changes nothing. The shorter of two histories that met begins the other.
+    -- A look at how much was logged changes nothing. The shorter of the two histories that met in a join begins the other.
     abbrev pub learned : Step (Option T) → Me (Option T) (View I) → ℕ → Me (Option T) (View I) → Type 0
     learned s m found m' = (m' ≡ m) × Knows caller m.0 × (length m.0.met ≤ length m.0.seen → IsPrefix m.0.met m.0.seen)
-
-    -- A look at how much was logged changes nothing. It tells that what was met is of the history that the seat has seen.
-    abbrev pub told : Step (Option T) → Me (Option T) (View I) → ℕ → Me (Option T) (View I) → Type 0
-    told s m found m' = (m' ≡ m) × AreOfOneHistory caller m.0 m.0.met
 
   -- The turn is over, and the value at home.
   abbrev pub served : Step (Option T) → Me (Option T) (View I) → ℕ → Me (Option T) (View I) → Type 0

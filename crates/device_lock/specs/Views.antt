@@ -103,14 +103,6 @@ module _ {I : Type 0} where
     met = [];
   }
 
-  -- what a pass has seen, for another one to meet: it has no number and no share, and comes to no turn
-  abbrev pub shown_view : View I → View I
-  shown_view v = record spent_view { seen = v.seen }
-
-  -- a pass that has met what w has seen
-  abbrev pub met_view : View I → View I → View I
-  met_view v w = record v { met = w.seen }
-
   -- the numbers that a pass keeps: its own, and those joined into it
   abbrev pub numbers : View I → List (List ℕ)
   numbers v = if v.spent then [] else v.number ∷ map (λ a. a.number) v.joined

@@ -85,7 +85,7 @@ impl<T: Kept> Held<T> {
     {
         let mut home = self.put(lock);
         lock.table.shared.fetch_add::<Serve>(&mut home, SERVING, 1);
-        lock.wake();
+        lock.wake_next();
         LockPass { seat: home }
     }
 }
@@ -102,7 +102,8 @@ impl<T: Kept> Logged<T> {
     {
         let Logged { mut seat } = self;
         lock.table.shared.fetch_add::<Serve>(&mut seat, SERVING, 1);
-        lock.wake();
+        lock.wake_next();
+        lock.wake_resting();
         LockPass { seat }
     }
 }

@@ -16,6 +16,7 @@ mod steps;
 #[cfg(test)]
 mod tests;
 mod view;
+mod waiting;
 
 pub use held::{Held, Logged};
 pub use kept::{Kept, Names};

@@ -8,30 +8,24 @@ use crate::held::{Hand, Held};
 use crate::kept::Kept;
 use crate::pass::LockPass;
 use crate::rule::{Board, LOGGED, NEXT, Place, SERVING};
-use crate::steps::{Cut, Draw, Glue, Learn, Look, Meet, Show, Tell};
+use crate::steps::{Cut, Draw, Glue, Learn, Look};
+use crate::waiting::{PATIENCE, Sleepers};
 use atomic_table::Table;
 use std::alloc::{AllocError, Global};
 use std::sync::Wait;
-use std::time::Duration;
-use std::{hint, thread};
-
-// So many looks are followed by spins, twice as many each time.
-const SPINS: u32 = 6;
-
-// The longest sleep, in microseconds. Who serves the next ticket wakes all that sleep.
-const NAP: u64 = 10_000;
 
 /// A value with a history, which one caller at a time takes, in the order of their tickets.
 #[derive(Drop)]
 pub struct Lock<T: Kept> {
     pub(crate) table: Board<T>,
+    pub(crate) sleepers: Sleepers,
     ghost sized: { (table.shared.table_id.words ≡ 3) × (table.shared.table_id.slots ≡ 1) },
 }
 
 impl<T: Kept> Lock<T> {
     ghost use Rattle.std.specs.Prelude.{IfOk};
-    ghost use Rattle.device_lock.specs.Numbers.{items_of, Knows, AreOfOneHistory};
-    ghost use Rattle.device_lock.specs.Views.{first_view, split_left, split_right, joined_view, met_view, IsSamePass};
+    ghost use Rattle.device_lock.specs.Numbers.{items_of, Knows};
+    ghost use Rattle.device_lock.specs.Views.{first_view, split_left, split_right, joined_view, IsSamePass};
     ghost use Rattle.device_lock.specs.Steps.{HasTurn};
     ghost use Rattle.device_lock.specs.Passes.{lock_id, pass_lock, pass_view, held_lock, held_view, held_value};
 
@@ -46,12 +40,16 @@ impl<T: Kept> Lock<T> {
         let mut slots = Vec::with_capacity(alloc, 1)?;
         slots.push(Some(value))?;
         match Table::new(alloc, &[0, 0, 0], slots, &()) {
-            Ok((table, seat)) => Ok((Lock { table }, LockPass { seat })),
+            Ok((table, seat)) => {
+                let sleepers = Sleepers::new();
+                Ok((Lock { table, sleepers }, LockPass { seat }))
+            }
             Err(_) => Err(AllocError),
         }
     }
 
-    // Draws a ticket. The greatest number is none, so that no word wraps.
+    // Draws a ticket as soon as it would be served at once, and after some looks in any case. The greatest number
+    // is none, so that no word wraps.
     fn draw<R: Wait>(&self, rt: &R, seat: &mut Place<T>) -> u64
         requires lock { seat.old.table_id ≡ lock_id self.now }
         requires away { IsAway seat.old.me.0 }
@@ -59,17 +57,19 @@ impl<T: Kept> Lock<T> {
         ensures ticket { seat.new.me ≡ (with_ticket seat.old.me.0 result, seat.old.me.1) }
     {
         let words = &self.table.shared;
-        let mut guess = words.peek(NEXT);
+        let mut looks = 0;
         for _ in rt.forever() {
-            if guess < u64::MAX {
-                let found = words.compare_exchange::<Draw>(seat, NEXT, guess, guess + 1);
-                if found == guess {
-                    return guess;
+            let serving = words.peek(SERVING);
+            let next = words.peek(NEXT);
+            if next < u64::MAX && (next == serving || looks >= PATIENCE) {
+                let found = words.compare_exchange::<Draw>(seat, NEXT, next, next + 1);
+                if found == next {
+                    return next;
                 }
-                guess = found;
             } else {
-                thread::yield_now();
+                self.pause(rt, looks, serving, &self.sleepers.idle);
             }
+            looks = looks.saturating_add(1);
         }
         unreachable!()
     }
@@ -88,33 +88,10 @@ impl<T: Kept> Lock<T> {
             if serving == ticket {
                 return;
             }
-            self.pause(rt, looks, serving);
+            self.pause(rt, looks, serving, &self.sleepers.queued);
             looks = looks.saturating_add(1);
         }
         unreachable!()
-    }
-
-    // Gives another thread time to serve the next ticket: some spins, twice as many after each look, and
-    // then a sleep until that ticket is served.
-    fn pause<R: Wait>(&self, rt: &R, looks: u32, serving: u64) {
-        if looks < SPINS {
-            for _ in 0..1u32 << looks {
-                hint::spin_loop();
-            }
-        } else {
-            let words = &self.table.shared;
-            let low = (serving % (1 << 32)) as u32;
-            words.park_timeout(rt, SERVING, low, Duration::from_micros(NAP));
-        }
-    }
-
-    // Wakes those that wait for their turn, where some do. Who draws a ticket after this look at `NEXT`
-    // finds the ticket that is served now.
-    pub(crate) fn wake(&self) {
-        let words = &self.table.shared;
-        if words.peek(NEXT) != words.peek(SERVING) {
-            words.wake_all(SERVING);
-        }
     }
 
     /// Waits for the caller's turn, and takes the value. It stands for the history that the caller has
@@ -138,6 +115,7 @@ impl<T: Kept> Lock<T> {
             None => unreachable!(),
         }
     }
+
     /// Splits a pass off another. The first has the caller's number, own and joined items; the second has a
     /// number of its own, which no item has. Both have seen what the pass had seen, and have half its share.
     pub fn split(&self, pass: LockPass<T>) -> (LockPass<T>, LockPass<T>)
@@ -173,35 +151,5 @@ impl<T: Kept> Lock<T> {
         words.join_seat::<Glue>(&mut seat, other);
         words.load::<Learn>(&mut seat, LOGGED);
         LockPass { seat }
-    }
-
-    // Shows the seat what the other one has seen.
-    fn meet(&self, seat: &mut Place<T>, other: &mut Place<T>)
-        requires locks { (seat.old.table_id ≡ lock_id self.now) × (other.old.table_id ≡ lock_id self.now) }
-        requires away { IsAway seat.old.me.0 }
-        ensures locks { (seat.new.table_id ≡ seat.old.table_id) × (other.new.table_id ≡ other.old.table_id) }
-        ensures seat { seat.new.me ≡ (met_view seat.old.me.0 other.old.me.0, seat.old.me.1) }
-        ensures other { other.new.me ≡ other.old.me }
-        ensures history { AreOfOneHistory T.caller seat.old.me.0 other.old.me.0.seen }
-    {
-        let words = &self.table.shared;
-        let shown = words.split_seat::<Show>(other);
-        words.join_seat::<Meet>(seat, shown);
-        words.load::<Tell>(seat, LOGGED);
-    }
-
-    /// Compares what two passes have seen: of the two, one is a beginning of the other; the items of a pass's number stand
-    /// in both in the order in which it logged them; and none has a number that a pass is still to give. The passes stay
-    /// as they are, but for what each remembers of having met the other.
-    pub fn compare(&self, a: &mut LockPass<T>, b: &mut LockPass<T>)
-        requires locks { (pass_lock a.old ≡ lock_id self.now) × (pass_lock b.old ≡ lock_id self.now) }
-        ensures locks { (pass_lock a.new ≡ pass_lock a.old) × (pass_lock b.new ≡ pass_lock b.old) }
-        ensures a { pass_view a.new ≡ met_view (pass_view a.old) (pass_view b.old) }
-        ensures b { pass_view b.new ≡ met_view (pass_view b.old) (pass_view a.old) }
-        ensures of_a { AreOfOneHistory T.caller (pass_view a.new) (pass_view b.new).seen }
-        ensures of_b { AreOfOneHistory T.caller (pass_view b.new) (pass_view a.new).seen }
-    {
-        self.meet(&mut a.seat, &mut b.seat);
-        self.meet(&mut b.seat, &mut a.seat);
     }
 }

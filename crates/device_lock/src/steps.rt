@@ -1,6 +1,6 @@
 // What each step on the table tells. These types are for the proofs alone.
-ghost use Rattle.device_lock.specs.Steps.{drew, looked, logs, learned, told, served};
-ghost use Rattle.device_lock.specs.Views.{split_left, split_right, joined_view, spent_view, shown_view, met_view};
+ghost use Rattle.device_lock.specs.Steps.{drew, looked, logs, learned, served};
+ghost use Rattle.device_lock.specs.Views.{split_left, split_right, joined_view, spent_view};
 
 use crate::kept::{Kept, Names};
 use crate::view::View;
@@ -33,12 +33,6 @@ impl<T: Kept> Play<Option<T>, View<T::Item>> for Learn {
     ghost then = { learned T.caller };
 }
 
-pub struct Tell;
-
-impl<T: Kept> Play<Option<T>, View<T::Item>> for Tell {
-    ghost then = { told T.caller };
-}
-
 pub struct Serve;
 
 impl<T, I> Play<Option<T>, View<I>> for Serve {
@@ -57,23 +51,6 @@ pub struct Glue;
 
 impl<I> Join<View<I>> for Glue {
     ghost both = { joined_view };
-
-    ghost spent = { spent_view };
-}
-
-// What a pass has seen, shown by a seat of its own.
-pub struct Show;
-
-impl<I> Split<View<I>> for Show {
-    ghost left = { λ v. v };
-
-    ghost right = { shown_view };
-}
-
-pub struct Meet;
-
-impl<I> Join<View<I>> for Meet {
-    ghost both = { met_view };
 
     ghost spent = { spent_view };
 }

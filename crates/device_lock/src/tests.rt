@@ -1,7 +1,6 @@
-ghost use Rattle.std.specs.Prelude.{◌≡◌, ◌⊎◌, ◌+◌, ◌%◌, ◌^◌, length, IfOk};
+ghost use Rattle.std.specs.Prelude.{◌≡◌, ◌+◌, ◌%◌, ◌^◌, length, IfOk};
 ghost use Rattle.std.specs.Thread.{IsSync};
 ghost use mathlib.Core.List.{IsPrefix};
-ghost use Rattle.device_lock.specs.Numbers.{items_of};
 ghost use Rattle.device_lock.specs.Passes.{lock_id, pass_lock, pass_view};
 
 use crate::{Kept, Lock, LockPass};
@@ -78,17 +77,7 @@ fn together(a: Option<Vec<u64>>, b: Option<Vec<u64>>) -> Option<Vec<u64>> {
     Some(all)
 }
 
-// What a caller that has two passes is told of them.
-fn compared(lock: &Lock<Tally>, a: &mut LockPass<Tally>, b: &mut LockPass<Tally>)
-    requires { (pass_lock a.old ≡ lock_id lock.now) × (pass_lock b.old ≡ lock_id lock.now) }
-    ensures locks { (pass_lock a.new ≡ pass_lock a.old) × (pass_lock b.new ≡ pass_lock b.old) }
-    ensures beginnings { IsPrefix (pass_view a.new).seen (pass_view b.new).seen ⊎ IsPrefix (pass_view b.new).seen (pass_view a.new).seen }
-    ensures own { IsPrefix (items_of (λ t. t.by) (pass_view a.new).number (pass_view b.new).seen) (pass_view a.new).own }
-{
-    lock.compare(a, b);
-}
-
-// Two threads count so many times each, with passes split from one, which are compared and joined at the end.
+// Two threads count so many times each, with passes split from one, which are joined at the end.
 fn count_by_two<R: Threads + Wait + Sync>(
     rt: &R,
     alloc: Global,
@@ -100,7 +89,7 @@ fn count_by_two<R: Threads + Wait + Sync>(
     ensures { pass_lock result.0 ≡ pass_lock pass }
 {
     let (a, b) = lock.split(pass);
-    let (mut a, mut b) = join(
+    let (a, b) = join(
         rt,
         || -> (LockPass<Tally>, Option<Vec<u64>>)
             requires { pass_lock a ≡ lock_id lock.now }
@@ -111,7 +100,6 @@ fn count_by_two<R: Threads + Wait + Sync>(
             ensures { pass_lock result.0 ≡ pass_lock b }
         { count_many(rt, alloc, lock, b, times) },
     );
-    compared(lock, &mut a.0, &mut b.0);
     (lock.join(a.0, b.0), together(a.1, b.1))
 }
 

@@ -41,6 +41,6 @@ pub struct View<I> {
     pub turn: Turn,
     /// It was joined into another one.
     pub spent: bool,
-    /// What another pass had seen when it last met one: in a join, the shorter of what the two had seen.
+    /// Of the last join, the shorter of what the two passes had seen.
     pub met: LinkedList<I>,
 }

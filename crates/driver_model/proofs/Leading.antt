@@ -10,7 +10,7 @@ use Rattle.present_queue.specs.Queue.{Names, Queue, Queued, holds, shows}
 use Rattle.vd_status.specs.declared.refusal.Refusal.TheVariants.{OutOfMemory}
 use Rattle.driver_model.specs.Answers.{Reply}
 use Rattle.driver_model.specs.Histories.{Happens, Leads}
-use Rattle.driver_model.specs.Laws.{FrontsAreLegal, HasSizes, HistoriesHaveSizes, HistoriesLeadToOneState, IdleSurfacesAreNotNamed, NamesAreGiven, NamesAreGivenOnce, RefusalsAreOne, RefusalsLeaveTheState, StepsLeaveOneState}
+use Rattle.driver_model.specs.Laws.{FrontsAreLegal, HasSizes, HistoriesGoOn, HistoriesHaveSizes, HistoriesLeadToOneState, IdleSurfacesAreNotNamed, NamesAreGiven, NamesAreGivenOnce, RefusalsAreOne, RefusalsLeaveTheState, StepsLeaveOneState}
 use Rattle.driver_model.specs.Objects.{Object}
 use Rattle.driver_model.specs.Parts.{given_by}
 use Rattle.driver_model.specs.Presented.{is_idle_at, is_queued_at, is_visible_at, queues_of}
@@ -92,6 +92,14 @@ histories_lead_to_one history s t p q = leads_one empty_state s t history empty_
 
 pub fronts_are_legal : FrontsAreLegal
 fronts_are_legal front rest legal = let r = leads_front empty_state legal.0 front rest legal.1 in (r.0, r.1)
+
+leads_more : (s t u : State) (history : List Item) (item : Item) → Leads s history t → Happens t item u → Leads s (history ++ item ∷ []) u
+unfolding Leads
+leads_more s t u [] item leads h = (u, subst (λ (v : State). Happens v item u) leads h, refl)
+leads_more s t u (first ∷ later) item leads h = (leads.0, leads.1, leads_more leads.0 t u later item leads.2 h)
+
+pub histories_go_on : HistoriesGoOn
+histories_go_on history s t item leads h = leads_more empty_state s t history item leads h
 
 -- ---- names
 

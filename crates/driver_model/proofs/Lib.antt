@@ -52,6 +52,7 @@ pub mod NoteLists
 pub mod NoteSteps
 pub mod NoteEntries
 pub mod NoteMarks
+pub mod LastJobs
 pub mod SizedLooks
 pub mod SizedSteps
 pub mod ScriptFlips

@@ -1,22 +1,23 @@
 -- What follows from the definitions.
-use Rattle.std.specs.Prelude.{◌≡◌, ◌≢◌, ◌↔◌, ℕ, Bool, true, false, not, List, ◌∷◌, ◌++◌, map, filter_map, AllPairs, slice_get, Some, Err, ⊤}
+use Rattle.std.specs.Prelude.{◌≡◌, ◌≢◌, ◌↔◌, ℕ, ◌+◌, Bool, true, false, not, List, [], ◌∷◌, ◌++◌, length, count_by, map, filter_map, AllPairs, slice_get, Some, Err, ⊤}
 use Rattle.std.specs.List.{AllByRecursion}
 use Rattle.cb_types.specs.AcceptedInfo.{takes_weights}
 use Rattle.cb_types.specs.SizeMbs.{IsWithinLimits}
 use Rattle.cb_types.specs.declared.size.SizeMbs.{SizeMbs}
+use Rattle.device_lock.specs.Numbers.{items_of}
 use Rattle.handle_table.specs.Name.{kind_of}
 use Rattle.present_queue.specs.Queue.{Names, Queue}
 use Rattle.vd_status.specs.declared.refusal.Refusal.{Refusal}
 use Rattle.vd_status.specs.declared.refusal.Refusal.TheVariants.{Bitstream, Incomplete, OutOfMemory}
 use Rattle.driver_model.specs.Answers.{Reply}
 use Rattle.driver_model.specs.Ends.{IsReplyOfJob}
-use Rattle.driver_model.specs.Histories.{IsLegal, IsStateOf}
+use Rattle.driver_model.specs.Histories.{Happens, IsLegal, IsStateOf}
 use Rattle.driver_model.specs.Jobs.{reply_of}
 use Rattle.driver_model.specs.Kept.{is_in_queue}
 use Rattle.driver_model.specs.Objects.{Content, VideoObject, OutputObject, DecoderObject, MixerObject}
 use Rattle.driver_model.specs.Notes.{IsOfEntry, is_ended}
 use Rattle.driver_model.specs.Parts.{NamesOneDevice, given_by, is_among, is_creation, names_of, part, part_of_front}
-use Rattle.driver_model.specs.Passes.{begins_job}
+use Rattle.driver_model.specs.Passes.{AreAtRest, begins_job, caller_of, ends_job, is_job}
 use Rattle.driver_model.specs.Presented.{is_idle_at, queues_of}
 use Rattle.driver_model.specs.SameDevice.{IsAlike}
 use Rattle.driver_model.specs.Sized.{AreSized, HaveWholeMatrices, SetsWholeMatrices}
@@ -113,6 +114,11 @@ QueuesAreSound = (history : List Item) (s : State) → IsStateOf history s → A
 abbrev pub FrontsAreLegal : Type 0
 FrontsAreLegal = (front rest : List Item) → IsLegal (front ++ rest) → IsLegal front
 
+-- A history goes on with any item that can happen in the state to which it leads.
+abbrev pub HistoriesGoOn : Type 0
+HistoriesGoOn =
+    (history : List Item) (s t : State) (item : Item) → IsStateOf history s → Happens s item t → IsStateOf (history ++ item ∷ []) t
+
 -- The limits of sizes, as the creates look at them, are those within which pictures are decoded.
 abbrev pub LimitsAreOne : Type 0
 LimitsAreOne = (size : SizeMbs) → (is_within_limits size ≡ true) ↔ IsWithinLimits size
@@ -204,6 +210,49 @@ JobsHaveOneReply =
     → IsReplyOfJob seen place caller a
     → IsReplyOfJob (seen ++ more) place other b
     → (caller ≡ other) × (a ≡ b)
+
+-- A job runs, as its note says, while its caller has no item behind the job's beginning.
+abbrev pub LastJobsRun : Type 0
+LastJobsRun =
+    (front later : List Item) (entry : Entry) (s : State)
+    → IsStateOf (front ++ Called entry ∷ later) s
+    → begins_job (Called entry) ≡ true
+    → items_of caller_of entry.caller (front ++ Called entry ∷ later) ≡ items_of caller_of entry.caller (front ++ Called entry ∷ [])
+    → has_note s entry.caller (length front) ≡ true
+
+-- So its caller may end it then.
+abbrev pub LastJobsMayEnd : Type 0
+LastJobsMayEnd =
+    (front later : List Item) (entry : Entry)
+    → IsLegal (front ++ Called entry ∷ later)
+    → begins_job (Called entry) ≡ true
+    → items_of caller_of entry.caller (front ++ Called entry ∷ later) ≡ items_of caller_of entry.caller (front ++ Called entry ∷ [])
+    → IsLegal ((front ++ Called entry ∷ later) ++ Ended (record { caller = entry.caller; place = length front }) ∷ [])
+
+-- A call that leaves the state as it was, as a begin does that is refused, leaves the items of its caller at rest.
+abbrev pub RefusedBeginsRest : Type 0
+RefusedBeginsRest =
+    (s : State) (entry : Entry) (own : List Item)
+    → Step s entry.caller entry.call entry.reply s
+    → AreAtRest own
+    → AreAtRest (own ++ Called entry ∷ [])
+
+-- So does a call that is no job.
+abbrev pub OtherCallsRest : Type 0
+OtherCallsRest =
+    (entry : Entry) (own : List Item) → is_job entry.call ≡ false → AreAtRest own → AreAtRest (own ++ Called entry ∷ [])
+
+-- A job that was begun leaves one open, and when it has ended none.
+abbrev pub JobsAreOpen : Type 0
+JobsAreOpen =
+    (entry : Entry) (own : List Item)
+    → begins_job (Called entry) ≡ true
+    → AreAtRest own
+    → count_by begins_job (own ++ Called entry ∷ []) ≡ count_by ends_job (own ++ Called entry ∷ []) + 1
+
+abbrev pub EndedJobsRest : Type 0
+EndedJobsRest =
+    (mark : Mark) (own : List Item) → count_by begins_job own ≡ count_by ends_job own + 1 → AreAtRest (own ++ Ended mark ∷ [])
 
 -- In the state of a legal history the objects have what their sizes and kinds say.
 abbrev pub ObjectsAreSized : Type 0

@@ -1,7 +1,7 @@
 // What follows from the definitions.
 ghost use Rattle.driver_model.specs.FlipLaws.{FlipsAreOne, ScriptsHaveOneText, StreamsSettleTheText, StreamsShowTheScript};
 ghost use Rattle.driver_model.specs.Owed.{CountsKeepTargets, EndsKeepTargets, NotesHaveTargets, RunsKeepTargets, StepsKeepTargets};
-ghost use Rattle.driver_model.specs.Laws.{DevicesHaveTheirKind, FrontsAreLegal, HistoriesHaveSizes, HistoriesLeadToOneState, IdleSurfacesAreNotNamed, JobsHaveOneReply, LimitsAreOne, LiveQueuesDecide, MarksEndJobs, MatricesAreWhole, NamesAreGiven, NamesAreGivenOnce, NotesAreApart, NotesAreOfEntries, NotesKeepReplies, ObjectsAreSized, OneProfileTakesWeights, PartsAreLegal, PartsBeginAlike, PartsHaveTheDevice, QueuesAreSound, RefusalsAreOne, RefusalsLeaveTheState, RunningJobsAreNoted, StepsLeaveOneState, WaitingCallsAreNotAnswered};
+ghost use Rattle.driver_model.specs.Laws.{DevicesHaveTheirKind, FrontsAreLegal, EndedJobsRest, HistoriesGoOn, HistoriesHaveSizes, HistoriesLeadToOneState, IdleSurfacesAreNotNamed, JobsAreOpen, JobsHaveOneReply, LastJobsMayEnd, LastJobsRun, LimitsAreOne, LiveQueuesDecide, MarksEndJobs, MatricesAreWhole, NamesAreGiven, NamesAreGivenOnce, NotesAreApart, NotesAreOfEntries, NotesKeepReplies, ObjectsAreSized, OneProfileTakesWeights, OtherCallsRest, PartsAreLegal, PartsBeginAlike, PartsHaveTheDevice, QueuesAreSound, RefusalsAreOne, RefusedBeginsRest, RefusalsLeaveTheState, RunningJobsAreNoted, StepsLeaveOneState, WaitingCallsAreNotAnswered};
 
 /// The state behind a call is settled by the state before it, the caller, the call and its reply.
 pub fn steps_leave_one_state()
@@ -9,11 +9,12 @@ pub fn steps_leave_one_state()
 {}
 
 /// A history leads to one state at most, whose objects have sizes within the limits, and each front of a legal
-/// history is legal.
+/// history is legal. It goes on with whatever can happen in that state.
 pub fn histories_lead_to_one_state()
     ensures one { HistoriesLeadToOneState }
     ensures sizes { HistoriesHaveSizes }
     ensures fronts { FrontsAreLegal }
+    ensures more { HistoriesGoOn }
 {}
 
 /// The names of all objects are those that the history gave, and none was given twice.
@@ -79,6 +80,21 @@ pub fn ends_have_begins()
     ensures marks { MarksEndJobs }
     ensures notes { NotesKeepReplies }
     ensures one { JobsHaveOneReply }
+{}
+
+/// A caller whose last own item began a job may end it, whatever others did meanwhile: the job's note is there.
+pub fn last_jobs_may_end()
+    ensures noted { LastJobsRun }
+    ensures legal { LastJobsMayEnd }
+{}
+
+/// A caller's items are at rest where each job that it began has ended. They stay so at a call that is no job, and
+/// at a begin that was refused. A job that was begun leaves one open, which its end closes.
+pub fn own_items_rest()
+    ensures refused { RefusedBeginsRest }
+    ensures others { OtherCallsRest }
+    ensures begun { JobsAreOpen }
+    ensures ended { EndedJobsRest }
 {}
 
 /// Where a legal history leads, each video surface's picture has the surface's size, each output surface has the

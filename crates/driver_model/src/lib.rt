@@ -16,8 +16,10 @@ mod replies;
 pub use calls::{Call, Wish};
 pub use items::{Entry, Item, Mark};
 pub use laws::{
-    histories_lead_to_one_state, idle_surfaces_are_not_named, names_are_given_once, numbers_agree,
-    parts_are_legal, queues_are_sound, refusals_leave_the_state, steps_leave_one_state,
+    ends_have_begins, flips_are_one, histories_lead_to_one_state, idle_surfaces_are_not_named,
+    jobs_keep_what_they_owe, last_jobs_may_end, names_are_given_once, notes_are_entries,
+    numbers_agree, objects_are_sized, own_items_rest, parts_are_legal, queues_are_sound,
+    refusals_leave_the_state, steps_leave_one_state, streams_settle_the_text,
     waiting_calls_are_not_answered,
 };
 pub use numbers::{

@@ -21,11 +21,11 @@ vector_is : (kind : MbKind) (vectors : List Vector) (b n : ℕ) → b < 16 → A
 vector_is kind vectors b n lt shared e = ap (vector_at vectors) (sym e) ∙ sym (shared b lt)
 
 -- the references of one more partition are there
-pub lacking_more : (slice : Slice) (kind : MbKind) (n entry : ℕ) → entry ≡ (partition_of kind n).reference → is_lacking slice.info slice.list entry ≡ false
-    → ((b : ℕ) → b < 16 → first_block (partition_of kind b) < n → is_lacking slice.info slice.list (partition_of kind b).reference ≡ false)
-    → (b : ℕ) → b < 16 → first_block (partition_of kind b) < n + 1 → is_lacking slice.info slice.list (partition_of kind b).reference ≡ false
+pub lacking_more : (slice : Slice) (kind : MbKind) (n entry : ℕ) → entry ≡ (partition_of kind n).reference → is_lacking slice.info slice.list slice.pictures entry ≡ false
+    → ((b : ℕ) → b < 16 → first_block (partition_of kind b) < n → is_lacking slice.info slice.list slice.pictures (partition_of kind b).reference ≡ false)
+    → (b : ℕ) → b < 16 → first_block (partition_of kind b) < n + 1 → is_lacking slice.info slice.list slice.pictures (partition_of kind b).reference ≡ false
 lacking_more slice kind n entry is held before b lt within = elim (cases_eq (first_block (partition_of kind b)) n) [
-  | inl e ↦ ap (is_lacking slice.info slice.list) (ap (λ (p : Partition). p.reference) (sym (partition_is kind b n lt e)) ∙ sym is) ∙ held
+  | inl e ↦ ap (is_lacking slice.info slice.list slice.pictures) (ap (λ (p : Partition). p.reference) (sym (partition_is kind b n lt e)) ∙ sym is) ∙ held
   | inr ne ↦ before b lt (omega arith)
 ]
 

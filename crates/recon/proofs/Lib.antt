@@ -5,6 +5,7 @@ pub mod SidesLemmas
 pub mod Intra4Lemmas
 pub mod ModeLemmas
 pub mod RangeLemmas
+pub mod ReferenceLemmas
 pub mod InterPlaces
 pub mod PartitionRects
 pub mod InterLemmas

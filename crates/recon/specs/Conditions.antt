@@ -20,7 +20,7 @@ use Rattle.cb_types.specs.declared.macroblock.Sub.{Sub}
 use Rattle.cb_types.specs.declared.picture_info.PictureInfo.{PictureInfo}
 use Rattle.int_transform.specs.Bounds.{AreWithin}
 use Rattle.motion.specs.Border.{macroblock_at}
-use Rattle.recon.specs.References.{AreHeld, ArePlaces}
+use Rattle.recon.specs.References.{ArePlaces}
 use Rattle.recon.specs.Slice.{Slice}
 
 pub record IsWeight (weight : Weight) : Type 0 where
@@ -95,5 +95,4 @@ pub record IsSlice (slice : Slice) (count : ℕ) : Type 0 where
   pub size : IsWithinLimits slice.size
   pub inside : slice.header.first_mb + count ≤ macroblocks slice.size
   pub list : ArePlaces slice.info slice.list
-  pub pictures : AreHeld slice.info slice.pictures
   pub each : (number : ℕ) → number < count → IsMacroblockRange (macroblock_at slice.macroblocks number)

@@ -90,14 +90,14 @@ pub record IsTile (slice : Slice) (number : ℕ) (vectors : List Vector) (tiles 
 
 -- Each reference of an inter macroblock is there.
 abbrev pub HasPictures : Slice → MbKind → Type 0
-HasPictures slice kind = is_intra kind ≡ false → (block : ℕ) → block < 16 → is_lacking slice.info slice.list (partition_of kind block).reference ≡ false
+HasPictures slice kind = is_intra kind ≡ false → (block : ℕ) → block < 16 → is_lacking slice.info slice.list slice.pictures (partition_of kind block).reference ≡ false
 
--- One is missing or an absent frame.
+-- One is missing, an absent frame, or one whose picture isn't given.
 pub record LacksPicture (slice : Slice) (kind : MbKind) : Type 0 where
   pub is_inter : is_intra kind ≡ false
   pub block : ℕ
   pub inside : block < 16
-  pub lacking : is_lacking slice.info slice.list (partition_of kind block).reference ≡ true
+  pub lacking : is_lacking slice.info slice.list slice.pictures (partition_of kind block).reference ≡ true
 
 -- The samples that the modes of an intra macroblock need are there.
 abbrev pub HasSamples : Slice → ℕ → List Tile → MbKind → Type 0
@@ -129,8 +129,8 @@ pub record IsRebuilt (slice : Slice) (marks : List MbMark) (tiles : List Tile) (
 abbrev pub AreRebuilt : Slice → List MbMark → List Tile → ℕ → Type 0
 AreRebuilt slice marks tiles count = (number : ℕ) → number < count → IsRebuilt slice marks tiles number
 
--- A macroblock can't be constructed behind those before it: a vector leaves the bounds, a reference is missing or an absent frame, or an
--- intra mode lacks samples.
+-- A macroblock can't be constructed behind those before it: a vector leaves the bounds, a reference is missing, an absent frame or
+-- not given, or an intra mode lacks samples.
 abbrev pub Stops : Slice → List MbMark → List Tile → ℕ → Type 0
 Stops slice marks tiles number =
     LeavesBounds (border_at slice marks number) (kind_at slice number)

@@ -1,7 +1,7 @@
 -- The pictures that a slice refers to. H.264, 8.4.2.1.
-use Rattle.std.specs.Prelude.{◌≡◌, ℕ, ◌<◌, Bool, true, false, List, [], slice_index_or, Option, Some, None, map}
+use Rattle.std.specs.Prelude.{◌≡◌, ℕ, ◌<◌, Bool, true, false, not, is_some, if◌then◌else◌, List, [], slice_index_or, Option, Some, None, map}
 use Rattle.std.specs.Arc.{arc_value}
-use Rattle.std.specs.Option.{option_and_then, option_map, IsSome}
+use Rattle.std.specs.Option.{option_and_then, option_map}
 use Rattle.cb_types.specs.References.{is_absent, is_unused}
 use Rattle.cb_types.specs.declared.picture_info.PictureInfo.{PictureInfo}
 use Rattle.cb_types.specs.declared.picture_info.Reference.{Reference}
@@ -23,13 +23,13 @@ reference_at info place = slice_index_or info.references place no_reference
 abbrev pub place_of : List (Option ℕ) → ℕ → Option ℕ
 place_of list entry = slice_index_or list entry None
 
--- nothing is at an entry of the list, or an absent frame
-abbrev pub is_place_lacking : PictureInfo → Option ℕ → Bool
-is_place_lacking info None = true
-is_place_lacking info (Some place) = is_absent (reference_at info place)
+-- nothing is at an entry of the list, or an absent frame, or its picture isn't given
+abbrev pub is_place_lacking : PictureInfo → List (Option Picture) → Option ℕ → Bool
+is_place_lacking info pictures None = true
+is_place_lacking info pictures (Some place) = if is_absent (reference_at info place) then true else not (is_some (slice_index_or pictures place None))
 
-abbrev pub is_lacking : PictureInfo → List (Option ℕ) → ℕ → Bool
-is_lacking info list entry = is_place_lacking info (place_of list entry)
+abbrev pub is_lacking : PictureInfo → List (Option ℕ) → List (Option Picture) → ℕ → Bool
+is_lacking info list pictures entry = is_place_lacking info pictures (place_of list entry)
 
 -- the picture of an entry
 abbrev pub picture_of : List (Option ℕ) → List (Option Picture) → ℕ → Option Picture
@@ -54,9 +54,3 @@ cr_of None = no_samples
 -- Each entry of the list that isn't missing is the place of an entry of the info that is used.
 abbrev pub ArePlaces : PictureInfo → List (Option ℕ) → Type 0
 ArePlaces info list = (entry place : ℕ) → place_of list entry ≡ Some place → (place < 16) × (is_unused (reference_at info place) ≡ false)
-
--- At each place whose entry names a surface there is a picture.
-abbrev pub AreHeld : PictureInfo → List (Option Picture) → Type 0
-AreHeld info pictures =
-    (place : ℕ) → place < 16 → is_unused (reference_at info place) ≡ false → is_absent (reference_at info place) ≡ false
-    → IsSome (slice_index_or pictures place None)

@@ -29,10 +29,10 @@ use vd_plane::Tile;
 /// Constructs the samples of a slice, before deblocking, and the marks of its macroblocks (H.264, 8.3 to
 /// 8.5). The three slices begin at the slice's first macroblock, and `count` of them are its own.
 ///
-/// `list` is the slice's reference list. False exactly where a macroblock uses a missing entry of it or an
-/// absent frame, an intra mode whose samples are missing, or a vector outside the bounds: -8192 to 8191
-/// across and -2048 to 2047 down, in quarter samples. Then the marks and tiles of the macroblocks before
-/// the first such one are constructed.
+/// `list` is the slice's reference list. False exactly where a macroblock uses a missing entry of it, an
+/// absent frame or a frame whose picture isn't given, an intra mode whose samples are missing, or a vector
+/// outside the bounds: -8192 to 8191 across and -2048 to 2047 down, in quarter samples. Then the marks and
+/// tiles of the macroblocks before the first such one are constructed.
 pub fn rebuild(
     info: &PictureInfo,
     header: &Header,

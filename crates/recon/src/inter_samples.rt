@@ -31,7 +31,7 @@ pub struct Place {
 }
 
 /// The predicted samples of an inter macroblock with these vectors, None where an entry of the reference
-/// list that it uses is missing or an absent frame.
+/// list that it uses is missing, an absent frame or one whose picture isn't given.
 pub fn inter(inputs: &Inputs, number: u32, vectors: &[Vector; 16]) -> Option<Tile>
     requires slice { IsSlice (slice_in inputs.now) (number + 1) }
     requires macroblock { number < length inputs.now.macroblocks.now }

@@ -12,7 +12,7 @@ invariant-loop-block l =
     let slice = slice_in l.inputs in
     let kind = kind_at slice l.number in
     record {
-      pictures : (block : ℕ) → block < 16 → first_block (partition_of kind block) < l.block → is_lacking slice.info slice.list (partition_of kind block).reference ≡ false;
+      pictures : (block : ℕ) → block < 16 → first_block (partition_of kind block) < l.block → is_lacking slice.info slice.list slice.pictures (partition_of kind block).reference ≡ false;
       y : (x y : ℕ) → x < 16 → y < 16 → first_block (partition_of kind (luma_block x y)) < l.block → tile_y l.tile x y ≡ inter_luma slice l.number l.vectors x y;
       cb : (x y : ℕ) → x < 8 → y < 8 → first_block (partition_of kind (chroma_block x y)) < l.block → tile_cb l.tile x y ≡ inter_cb slice l.number l.vectors x y;
       cr : (x y : ℕ) → x < 8 → y < 8 → first_block (partition_of kind (chroma_block x y)) < l.block → tile_cr l.tile x y ≡ inter_cr slice l.number l.vectors x y;

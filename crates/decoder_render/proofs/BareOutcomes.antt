@@ -12,7 +12,7 @@ use Rattle.decoder_render.specs.declared.outcome.Outcome.{Outcome}
 use Rattle.decoder_render.specs.declared.outcome.Outcome.TheVariants as outcome
 use Rattle.decoder_render.proofs.BareEntries.{bare}
 use Rattle.decoder_render.proofs.BareLists.{list_same}
-use Rattle.decoder_render.proofs.BareSlices.{fits_same, held_same, rebuilt_same, spells_same}
+use Rattle.decoder_render.proofs.BareSlices.{fits_same, rebuilt_same, spells_same}
 
 module _ (size : SizeMbs) (pictures : List (Option Picture)) where
   next_same : (info : PictureInfo) (entries : List Reference) → map bare info.references ≡ map bare entries → (covered : Covered) (payload : List ℕ) (after : Covered)
@@ -69,7 +69,6 @@ module _ (size : SizeMbs) (pictures : List (Option Picture)) where
 
     pub outcome_same : (units : List (Option (List ℕ))) (answer : Outcome) (picture : Picture) → IsOutcome (given info size pictures) units answer picture → IsOutcome (given new size pictures) units answer picture
     outcome_same units outcome.Ok picture is = record {
-      held = held_same info entries alike pictures is.held;
       covered = is.covered;
       accepted = accepted_same info entries alike units (length units) is.covered is.accepted;
       all = is.all;

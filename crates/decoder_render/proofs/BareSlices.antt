@@ -1,7 +1,7 @@
 -- A slice is spelled, accepted and constructed alike with an info whose references are alike but for their names.
-use Rattle.std.proofs.Common.{◌≡◌, ℕ, List, map, Option, Some, None, refl, sym, ap, ◌∙◌}
+use Rattle.std.proofs.Common.{◌≡◌, ℕ, Bool, true, cond, not, is_some, get_or, List, map, Option, Some, None, refl, sym, ap, ◌∙◌}
 use Rattle.std.proofs.Math.ListN.{get_or-map}
-use Rattle.cb_types.specs.References.{is_absent, is_unused}
+use Rattle.cb_types.specs.References.{is_absent}
 use Rattle.cb_types.specs.declared.header.Header.{Header}
 use Rattle.cb_types.specs.declared.header.UnitHead.{UnitHead}
 use Rattle.cb_types.specs.declared.macroblock.Macroblock.{Macroblock}
@@ -13,7 +13,7 @@ use Rattle.motion.specs.Partitions.{partition_of}
 use Rattle.recon.specs.Inter.{inter_cb, inter_cr, inter_luma}
 use Rattle.recon.specs.Quantizer.{qp_before}
 use Rattle.recon.specs.Rebuilt.{AreRebuilt, IsRebuilt}
-use Rattle.recon.specs.References.{AreHeld, is_lacking, is_place_lacking, no_reference, place_of, reference_at}
+use Rattle.recon.specs.References.{is_lacking, is_place_lacking, no_reference, place_of, reference_at}
 use Rattle.recon.specs.Slice.{Slice, kind_at}
 use Rattle.slice_header.specs.AcceptedSlices.{IsAcceptedSlice}
 use Rattle.slice_header.specs.Spelling.{filter, numbers, orders, references, slice_header}
@@ -22,7 +22,7 @@ use Rattle.vd_plane.specs.declared.tile.Tile.{Tile}
 use Rattle.decoder_render.specs.Coverage.{given, slice_in}
 use Rattle.decoder_render.specs.Renamed.{with_references}
 use Rattle.decoder_render.specs.Slices.{SpellsSlice}
-use Rattle.decoder_render.proofs.BareEntries.{bare, bare_absent, bare_unused}
+use Rattle.decoder_render.proofs.BareEntries.{bare, bare_absent}
 
 module _ (info : PictureInfo) (entries : List Reference) where
   -- the elements of a header
@@ -54,25 +54,17 @@ at_place info entries place alike =
     ∙ (ap (λ (bared : List Reference). reference_at (with_references info bared) place) alike ∙ get_or-map bare entries place no_reference)
 
 module _ (info : PictureInfo) (entries : List Reference) (alike : map bare info.references ≡ map bare entries) where
-  unused_same : (place : ℕ) → is_unused (reference_at info place) ≡ is_unused (reference_at (with_references info entries) place)
-  unused_same place =
-      sym (bare_unused (reference_at info place))
-      ∙ (ap (λ (entry : Reference). is_unused entry) (at_place info entries place alike) ∙ bare_unused (reference_at (with_references info entries) place))
-
   absent_same : (place : ℕ) → is_absent (reference_at info place) ≡ is_absent (reference_at (with_references info entries) place)
   absent_same place =
       sym (bare_absent (reference_at info place))
       ∙ (ap (λ (entry : Reference). is_absent entry) (at_place info entries place alike) ∙ bare_absent (reference_at (with_references info entries) place))
 
-  place_same : (place : Option ℕ) → is_place_lacking info place ≡ is_place_lacking (with_references info entries) place
-  place_same None = refl
-  place_same (Some place) = absent_same place
+  place_same : (pictures : List (Option Picture)) (place : Option ℕ) → is_place_lacking info pictures place ≡ is_place_lacking (with_references info entries) pictures place
+  place_same pictures None = refl
+  place_same pictures (Some place) = ap (λ (absent : Bool). cond absent true (not (is_some (get_or pictures place None)))) (absent_same place)
 
-  pub lacking_same : (list : List (Option ℕ)) (entry : ℕ) → is_lacking info list entry ≡ is_lacking (with_references info entries) list entry
-  lacking_same list entry = place_same (place_of list entry)
-
-  pub held_same : (pictures : List (Option Picture)) → AreHeld info pictures → AreHeld (with_references info entries) pictures
-  held_same pictures held place inside used present = held place inside (unused_same place ∙ used) (absent_same place ∙ present)
+  pub lacking_same : (list : List (Option ℕ)) (pictures : List (Option Picture)) (entry : ℕ) → is_lacking info list pictures entry ≡ is_lacking (with_references info entries) list pictures entry
+  lacking_same list pictures entry = place_same pictures (place_of list entry)
 
   -- ---- construction
 
@@ -88,7 +80,7 @@ module _ (info : PictureInfo) (entries : List Reference) (alike : map bare info.
     rebuilt_one marks tiles number is = record {
       mark = is.mark;
       vectors = is.vectors;
-      pictures = λ inter block inside. sym (lacking_same old.list (partition_of (kind_at old number) block).reference) ∙ is.pictures inter block inside;
+      pictures = λ inter block inside. sym (lacking_same old.list old.pictures (partition_of (kind_at old number) block).reference) ∙ is.pictures inter block inside;
       samples = is.samples;
       tile = record { y = is.tile.y; cb = is.tile.cb; cr = is.tile.cr };
     }

@@ -6,7 +6,6 @@ use Rattle.cb_types.specs.declared.mark.MbMark.{MbMark}
 use Rattle.cb_types.specs.declared.picture_info.PictureInfo.{PictureInfo}
 use Rattle.cb_types.specs.declared.size.SizeMbs.{SizeMbs}
 use Rattle.deblock.specs.Deblocked.{deblocked_chroma, deblocked_luma}
-use Rattle.recon.specs.References.{AreHeld}
 use Rattle.vd_plane.specs.Picture.{HasSize}
 use Rattle.vd_plane.specs.Tiles.{ShowsTiles}
 use Rattle.vd_plane.specs.declared.picture.Picture.{Picture}
@@ -42,14 +41,13 @@ module _ (info : PictureInfo) (size : SizeMbs) (pictures : List (Option Picture)
     }
 
     -- all units are accepted, and none is missing
-    pub all_there : count ≡ length units → start_of slices count ≡ macroblocks size → AreHeld info pictures → (made picture : Picture) → HasSize made size → ShowsTiles tiles size.width made
+    pub all_there : count ≡ length units → start_of slices count ≡ macroblocks size → (made picture : Picture) → HasSize made size → ShowsTiles tiles size.width made
         → picture.y ≡ deblocked_luma size marks made.y → picture.cb ≡ deblocked_chroma info.chroma_qp_index_offset size marks made.cb → picture.cr ≡ deblocked_chroma info.chroma_qp_index_offset size marks made.cr
         → IsWhole (given info size pictures) units picture
-    all_there all full held made picture has shows y cb cr =
+    all_there all full made picture has shows y cb cr =
         let same_marks : take (start_of slices count) marks ≡ marks = take_all (start_of slices count) marks (omega (arith, full, of_marks)) in
         let same_tiles : take (start_of slices count) tiles ≡ tiles = take_all (start_of slices count) tiles (omega (arith, full, of_tiles)) in
         record {
-          held = held;
           covered = covered_by slices marks tiles count;
           accepted = subst (λ (n : ℕ). AreAccepted (given info size pictures) units n (covered_by slices marks tiles count)) all accepted;
           all = so_many ∙ full;

@@ -15,7 +15,7 @@ use Rattle.motion.specs.Border.{mark_at, no_mark}
 use Rattle.recon.specs.Conditions.{IsSlice}
 use Rattle.recon.specs.Laws.{AreWhole, IsWholeMark, IsWholeTile}
 use Rattle.recon.specs.Rebuilt.{AreRebuilt}
-use Rattle.recon.specs.References.{AreHeld, ArePlaces}
+use Rattle.recon.specs.References.{ArePlaces}
 use Rattle.recon.specs.Slice.{slice_of}
 use Rattle.ref_lists.specs.ReferenceList.{reference_list}
 use Rattle.vd_plane.specs.declared.picture.Picture.{Picture}
@@ -51,9 +51,9 @@ parsed_places info header list entries sixteen listed same =
     subst (ArePlaces info) (sym same) (list_places info header (length list) (in_places list) sixteen (listed ∙ ap (λ (l : List (Option ℕ)). Some l) (sym front)) behind)
 
 pub parsed_slice : (info : PictureInfo) (size : SizeMbs) (pictures : List (Option Picture)) (first : Option Header) (start : ℕ) (payload : List ℕ) (slice : ParsedSlice) (mbs : List Macroblock)
-    → IsAcceptedBySome info → IsWithinLimits size → length info.references ≡ 16 → AreHeld info pictures → IsParsed info size first start payload slice mbs
+    → IsAcceptedBySome info → IsWithinLimits size → length info.references ≡ 16 → IsParsed info size first start payload slice mbs
     → IsSlice (slice_of info slice.header slice.list.entries pictures size mbs) slice.count
-parsed_slice info size pictures first start payload slice mbs accepted limits sixteen held parsed =
+parsed_slice info size pictures first start payload slice mbs accepted limits sixteen parsed =
     let inside = parsed_inside info size first start payload slice mbs parsed in
     let spelled = parsed.parse.spelled in
     let header = taken_header slice.header.head info (bits_behind payload) slice.header spelled.rest accepted spelled.elements in
@@ -64,7 +64,6 @@ parsed_slice info size pictures first start payload slice mbs accepted limits si
       size = limits;
       inside = omega (arith, inside.first, inside.end);
       list = parsed_places info slice.header parsed.list slice.list.entries sixteen parsed.parse.listed parsed.entries;
-      pictures = held;
       each = λ number below. macroblocks_range info slice.header size spelled.rest mbs header.active spelled.macroblocks number (omega (arith, below, count));
     }
 
@@ -120,13 +119,13 @@ whole_more marks part rest tiles part' rest' start count end room room' of_part 
 -- the marks of a picture, of which a slice's were written
 pub marks_more : (info : PictureInfo) (size : SizeMbs) (pictures : List (Option Picture)) (first : Option Header) (start : ℕ) (payload : List ℕ) (slice : ParsedSlice) (mbs : List Macroblock)
     (marks part rest : List MbMark) (tiles : List Tile)
-    → IsAcceptedBySome info → IsWithinLimits size → length info.references ≡ 16 → AreHeld info pictures → IsParsed info size first start payload slice mbs
+    → IsAcceptedBySome info → IsWithinLimits size → length info.references ≡ 16 → IsParsed info size first start payload slice mbs
     → start ≤ length marks → length part ≡ slice.count → AreWhole part tiles slice.count
     → AreRebuilt (slice_of info slice.header slice.list.entries pictures size mbs) part tiles slice.count
     → ((k : ℕ) → k < start → IsMark (mark_at marks k))
     → (k : ℕ) → k < start + slice.count → IsMark (mark_at (take start marks ++ (part ++ rest)) k)
-marks_more info size pictures first start payload slice mbs marks part rest tiles accepted limits sixteen held parsed room count whole rebuilt before k below =
-    let is = parsed_slice info size pictures first start payload slice mbs accepted limits sixteen held parsed in
+marks_more info size pictures first start payload slice mbs marks part rest tiles accepted limits sixteen parsed room count whole rebuilt before k below =
+    let is = parsed_slice info size pictures first start payload slice mbs accepted limits sixteen parsed in
     let spelled = parsed.parse.spelled in
     let header = taken_header slice.header.head info (bits_behind payload) slice.header spelled.rest accepted spelled.elements in
     elim (cases_lt k start) [

@@ -11,7 +11,6 @@ use Rattle.deblock.specs.Marks.{IsMark}
 use Rattle.motion.specs.Border.{mark_at, no_mark}
 use Rattle.recon.specs.Conditions.{IsSlice}
 use Rattle.recon.specs.Laws.{AreWhole, IsWholeMark, IsWholeTile}
-use Rattle.recon.specs.References.{AreHeld}
 use Rattle.recon.specs.Slice.{Slice, slice_of}
 use Rattle.vd_plane.specs.declared.picture.Picture.{Picture}
 use Rattle.vd_plane.specs.declared.tile.Tile.{Tile}
@@ -41,12 +40,12 @@ module _ (info : PictureInfo) (size : SizeMbs) (pictures : List (Option Picture)
   pub step_inside : IsParsedUnit info size units slices mbs n → IsInside size (start_of slices n) (slice_at slices n)
   step_inside unit = parsed_inside info size (first_header slices n) (start_of slices n) unit.payload (slice_at slices n) (macroblocks_of slices mbs n) unit.parsed
 
-  pub step_slice : IsAcceptedBySome info → IsWithinLimits size → length info.references ≡ 16 → AreHeld info pictures → IsParsedUnit info size units slices mbs n
+  pub step_slice : IsAcceptedBySome info → IsWithinLimits size → length info.references ≡ 16 → IsParsedUnit info size units slices mbs n
       → IsSlice (step_at (slice_at slices n).header.first_mb) (slice_at slices n).count
-  step_slice accepted limits sixteen held unit =
+  step_slice accepted limits sixteen unit =
       let inside = step_inside unit in
       subst (λ (first : ℕ). IsSlice (step_at first) (slice_at slices n).count) (sym inside.first)
-      (parsed_slice info size pictures (first_header slices n) (start_of slices n) unit.payload (slice_at slices n) (macroblocks_of slices mbs n) accepted limits sixteen held unit.parsed)
+      (parsed_slice info size pictures (first_header slices n) (start_of slices n) unit.payload (slice_at slices n) (macroblocks_of slices mbs n) accepted limits sixteen unit.parsed)
 
   module _ (marks new_marks : List MbMark) (tiles new_tiles : List Tile) where
     abbrev pub Step : ℕ → Bool → Type 0
@@ -97,9 +96,9 @@ module _ (info : PictureInfo) (size : SizeMbs) (pictures : List (Option Picture)
           let next : suc n ≡ n + 1 = omega arith in
           subst (λ (k : ℕ). AreAccepted (given info size pictures) units k (covered_by slices new_marks new_tiles k)) next with_tiles
 
-      pub step_marks : IsAcceptedBySome info → IsWithinLimits size → length info.references ≡ 16 → AreHeld info pictures → Step (slice_at slices n).header.first_mb true
+      pub step_marks : IsAcceptedBySome info → IsWithinLimits size → length info.references ≡ 16 → Step (slice_at slices n).header.first_mb true
           → ((k : ℕ) → k < start_of slices n → IsMark (mark_at marks k)) → (k : ℕ) → k < start_of slices (n + 1) → IsMark (mark_at new_marks k)
-      step_marks accepted limits sixteen held here before k below =
+      step_marks accepted limits sixteen here before k below =
           let inside = step_inside unit in
           let start = start_of slices n in
           let count = (slice_at slices n).count in
@@ -107,7 +106,7 @@ module _ (info : PictureInfo) (size : SizeMbs) (pictures : List (Option Picture)
           let next = start_next slices n in
           subst (λ (m : List MbMark). IsMark (mark_at m k)) (sym step.in_marks)
           (marks_more info size pictures (first_header slices n) start unit.payload (slice_at slices n) (macroblocks_of slices mbs n) marks step.own_marks (drop (start + count) marks) step.own_tiles
-          accepted limits sixteen held unit.parsed (omega (arith, inside.end, of_marks)) step.of_marks (own_whole true step) step.rebuilt before k (omega (arith, below, next)))
+          accepted limits sixteen unit.parsed (omega (arith, inside.end, of_marks)) step.of_marks (own_whole true step) step.rebuilt before k (omega (arith, below, next)))
 
       pub step_refused : (covered : Covered) → IsAcceptedBySome info → IsWithinLimits size → Step (slice_at slices n).header.first_mb false → IsRefused (given info size pictures) covered (payload_at units n)
       step_refused covered accepted limits here =

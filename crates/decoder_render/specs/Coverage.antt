@@ -43,8 +43,8 @@ abbrev pub slice_in : Given → Header → List (Option ℕ) → List Macroblock
 slice_in g header list mbs = slice_of g.info header (in_places list) g.pictures g.size mbs
 
 -- The unit with this payload is accepted behind those that cover so much: it spells a slice that fits the picture and those before,
--- its edits name references, each reference that it uses is there and isn't an absent frame, each intra mode has the samples that it
--- needs, and each vector lies within the bounds. These are its marks and its samples.
+-- its edits name references, each reference that it uses is there, isn't an absent frame and has its picture given, each intra mode has
+-- the samples that it needs, and each vector lies within the bounds. These are its marks and its samples.
 pub record IsNextSlice (g : Given) (covered : Covered) (payload : List ℕ) (header : Header) (list : List (Option ℕ)) (mbs : List Macroblock) (marks : List MbMark) (tiles : List Tile) : Type 0 where
   pub spelled : SpellsSlice g.info g.size payload header mbs
   pub fits : IsAcceptedSlice g.info (unwrap_or covered.first header) (length covered.tiles) header

@@ -4,7 +4,6 @@ use Rattle.cb_types.specs.SizeMbs.{macroblocks}
 use Rattle.vd_plane.specs.Picture.{HasSize}
 use Rattle.vd_plane.specs.Tiles.{ShowsTiles}
 use Rattle.vd_plane.specs.declared.picture.Picture.{Picture}
-use Rattle.recon.specs.References.{AreHeld}
 use Rattle.deblock.specs.Deblocked.{deblocked_chroma, deblocked_luma}
 use Rattle.decoder_render.specs.Coverage.{AreAccepted, Covered, Given, IsRefused}
 use Rattle.decoder_render.specs.Submission.{payload_at}
@@ -20,9 +19,8 @@ pub record IsDecoded (g : Given) (covered : Covered) (picture : Picture) : Type 
   pub cb : picture.cb ≡ deblocked_chroma g.info.chroma_qp_index_offset g.size covered.marks constructed.cb
   pub cr : picture.cr ≡ deblocked_chroma g.info.chroma_qp_index_offset g.size covered.marks constructed.cr
 
--- All units are accepted, and cover the whole picture. Each reference that the info names is given.
+-- All units are accepted, and cover the whole picture.
 pub record IsWhole (g : Given) (units : List (Option (List ℕ))) (picture : Picture) : Type 0 where
-  pub held : AreHeld g.info g.pictures
   pub covered : Covered
   pub accepted : AreAccepted g units (length units) covered
   pub all : length covered.tiles ≡ macroblocks g.size

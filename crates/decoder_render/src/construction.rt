@@ -8,7 +8,7 @@ ghost use Rattle.motion.specs.Border.{mark_at};
 ghost use Rattle.recon.specs.Conditions.{IsSlice};
 ghost use Rattle.recon.specs.Laws.{AreWhole};
 ghost use Rattle.recon.specs.Rebuilt.{AreRebuilt, StopsWithin};
-ghost use Rattle.recon.specs.References.{AreHeld, pictures_of};
+ghost use Rattle.recon.specs.References.{pictures_of};
 ghost use Rattle.recon.specs.Slice.{slice_of};
 ghost use Rattle.decoder_render.specs.Constructed.{IsConstructed};
 ghost use Rattle.decoder_render.specs.Coverage.{AreAccepted, IsRefused, given};
@@ -35,7 +35,6 @@ pub fn construct_slices(
     requires info { IsAcceptedBySome info.now }
     requires size { IsWithinLimits size }
     requires slices { count ≤ length slices.now }
-    requires pictures { AreHeld info.now (pictures_of refs.now) }
     requires parsed { (units : List (Option (List ℕ))) × AreParsed info.now size units slices.now macroblocks.now count }
     requires macroblocks { length macroblocks.now ≡ sizes.macroblocks size }
     requires marks { length marks.old ≡ sizes.macroblocks size }

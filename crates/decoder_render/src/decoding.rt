@@ -4,7 +4,7 @@ ghost use Rattle.cb_types.specs.AcceptedInfo.{IsAcceptedBySome};
 ghost use Rattle.cb_types.specs.SizeMbs as sizes;
 ghost use Rattle.cb_types.specs.SizeMbs.{IsWithinLimits};
 ghost use Rattle.recon.specs.Laws.{AreWhole};
-ghost use Rattle.recon.specs.References.{AreHeld, pictures_of};
+ghost use Rattle.recon.specs.References.{pictures_of};
 ghost use Rattle.vd_plane.specs.Picture.{HasSize};
 ghost use Rattle.decoder_render.specs.Coverage.{given};
 ghost use Rattle.decoder_render.specs.Outcomes.{IsOutcome};
@@ -32,7 +32,6 @@ pub fn decode_units(
     picture: &mut Picture,
 ) -> Outcome
     requires info { IsAcceptedBySome info.now }
-    requires pictures { AreHeld info.now (pictures_of refs.now) }
     requires size { IsWithinLimits size }
     requires few { length units.now < 2 ^ 32 }
     requires slices { length slices.old ≡ min (length units.now) (sizes.macroblocks size) }

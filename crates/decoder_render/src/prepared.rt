@@ -30,7 +30,7 @@ impl Prepared {
     ghost use Rattle.std.specs.Prelude.{◌≡◌, ◌<◌, ◌^◌, IfOk};
     ghost use Rattle.cb_types.specs.AcceptedInfo.{IsAcceptedBySome};
     ghost use Rattle.cb_types.specs.SizeMbs.{IsWithinLimits};
-    ghost use Rattle.recon.specs.References.{AreHeld, pictures_of};
+    ghost use Rattle.recon.specs.References.{pictures_of};
     ghost use Rattle.vd_plane.specs.Picture.{HasSize, IsZeros};
     ghost use Rattle.decoder_render.specs.Coverage.{given};
     ghost use Rattle.decoder_render.specs.Outcomes.{IsOutcome};
@@ -71,7 +71,6 @@ impl Prepared {
     /// the other, and the picture is filtered where each is accepted and they cover it.
     pub fn decode(&mut self, info: &PictureInfo, refs: &Refs) -> Outcome
         requires info { IsAcceptedBySome info.now }
-        requires pictures { AreHeld info.now (pictures_of refs.now) }
         ensures outcome { IsOutcome (given info.now (size_of self.old) (pictures_of refs.now)) (units_of self.old) result (picture_of self.new) }
         ensures units { units_of self.new ≡ units_of self.old }
         ensures size { size_of self.new ≡ size_of self.old }

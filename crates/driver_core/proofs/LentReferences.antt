@@ -1,19 +1,16 @@
 -- The samples that a render's references lend out.
-use Rattle.std.proofs.Common.{◌≡◌, ℕ, suc, ◌<◌, ◌||◌, Bool, false, List, [], ◌∷◌, length, map, get_or, Option, Some, None, IsSome, refl, sym, ap, ◌∙◌, arith}
+use Rattle.std.proofs.Common.{◌≡◌, ℕ, suc, ◌<◌, ◌||◌, Bool, false, List, [], ◌∷◌, length, map, get_or, Option, Some, None, refl, sym, ap, ◌∙◌, arith}
 use Rattle.std.specs.List.{list_any}
 use Rattle.std.specs.Option.{option_map, option_map_or}
-use Rattle.cb_types.specs.declared.picture_info.PictureInfo.{PictureInfo}
-use Rattle.recon.specs.References.{AreHeld}
 use Rattle.vd_plane.specs.declared.picture.Picture.{Picture}
 use Rattle.driver_model.specs.Objects as model
 use Rattle.driver_model.specs.States.{Found, State, is_out}
 use Rattle.driver_objects.specs.Contents.{HasVideo}
 use Rattle.driver_objects.specs.Kept.{kept_of}
 use Rattle.driver_objects.specs.declared.object.Object.{Object}
-use Rattle.driver_objects.specs.declared.references.Rendering.{Rendering}
 use Rattle.driver_objects.proofs.Alike.{alike_has_video, alike_video}
-use Rattle.driver_core.specs.RenderStarts.{AreLent, IsLent}
-use Rattle.driver_core.specs.Rendered.{AreSeen, AreVideos, IsSeenIf}
+use Rattle.driver_core.specs.RenderStarts.{IsLent}
+use Rattle.driver_core.specs.Rendered.{AreSeen, IsSeenIf}
 use Rattle.driver_core.specs.Shared.{Shares}
 use Rattle.driver_core.specs.declared.driver.Core.{Core}
 use Rattle.driver_core.proofs.Out.{not_out_not_owed}
@@ -45,17 +42,6 @@ module _ (old mid : Core) (shares : Shares old mid) where
       lent v.surface v.has ∙ v.samples
 
 -- ---- all that are lent
-
-lent_some : (kept : List Object) (slot : Option ℕ) (picture : Option Picture) → IsLent kept slot picture → IsSome slot → IsSome picture
-lent_some kept None None lent some = some
-lent_some kept None (Some picture) lent some = absurd lent
-lent_some kept (Some index) None lent some = absurd lent
-lent_some kept (Some index) (Some picture) lent some = some
-
--- there is a picture for each entry that names a surface
-pub lent_held : (kept : List Object) (info : PictureInfo) (on : Rendering) (pictures : List (Option Picture)) → AreVideos kept info.references on → AreLent kept on.references pictures → AreHeld info pictures
-lent_held kept info on pictures videos lent place within used there =
-    lent_some kept (get_or on.references place None) (get_or pictures place None) (lent place within) (videos.needed place within used there)
 
 module _ (core : Core) (d : State) where
   abbrev pub picture_of : Option (Found model.VideoSurface) → Option Picture

@@ -19,13 +19,13 @@ pub struct CoreRender {
     size: SizeMbs,
     prepared: Prepared,
     refs: Refs,
-    ghost ready: { IsReady info refs },
+    ghost ready: { IsReady info },
     ghost sized: { units.size_of prepared ≡ size },
 }
 
 impl CoreRender {
     ghost use Rattle.cb_types.specs.AcceptedInfo.{IsAcceptedBySome};
-    ghost use Rattle.recon.specs.References.{AreHeld, pictures_of};
+    ghost use Rattle.recon.specs.References.{pictures_of};
     ghost use Rattle.driver_jobs.specs.Renders.{IsDoneOf, given_of, held_by, number_of, payloads_of};
     ghost use Rattle.decoder_render.specs.Coverage.{given};
 
@@ -39,7 +39,6 @@ impl CoreRender {
         refs: Refs,
     ) -> CoreRender
         requires info { IsAcceptedBySome info }
-        requires pictures { AreHeld info (pictures_of refs) }
         requires size { units.size_of prepared ≡ size }
         ensures number { number_of result ≡ number }
         ensures given { given_of result ≡ given info size (pictures_of refs) }

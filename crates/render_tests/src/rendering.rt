@@ -1,8 +1,6 @@
 // A submission's way to its outcome, and what it is decoded with.
-ghost use Rattle.std.specs.Prelude.{◌≡◌, ◌≤◌, IsTrue, IsSome, false};
-ghost use Rattle.cb_types.specs.References.{is_unused};
+ghost use Rattle.std.specs.Prelude.{◌≤◌, IsTrue};
 ghost use Rattle.cb_types.specs.AcceptedInfo.{IsAcceptedBySome};
-ghost use Rattle.recon.specs.References.{AreHeld, pictures_of};
 
 use cb_types::{
     PictureInfo, Reference, ScalingList4x4, ScalingList8x8, SizeMbs, first_refused_field,
@@ -119,7 +117,7 @@ pub fn render(
     assert!(rt; width >= 1 && width <= 4 && bytes.len() < 100);
     let info = info_of(kind);
     let refs = flat_refs(alloc, width)?;
-    assert!(rt; is_accepted(&info) && are_held(&info, &refs));
+    assert!(rt; is_accepted(&info));
     let mut prepared = Prepared::new(alloc, SizeMbs { width, height: 1 }, bytes)?;
     let units = prepared.units();
     let outcome = prepared.decode(&info, &refs);
@@ -137,23 +135,6 @@ fn is_accepted(info: &PictureInfo) -> bool
         None => true,
         Some(_) => false,
     }
-}
-
-fn are_held(info: &PictureInfo, refs: &Refs) -> bool
-    ensures { IsTrue result → AreHeld info.now (pictures_of refs.now) }
-{
-    for place in 0..16 {
-        if !is_held(&info.references[place], &refs.pictures[place]) {
-            return false;
-        }
-    }
-    true
-}
-
-fn is_held(entry: &Reference, picture: &Option<Arc<Picture>>) -> bool
-    ensures { IsTrue result → is_unused entry.now ≡ false → IsSome picture.now }
-{
-    entry.is_unused() || picture.is_some()
 }
 
 fn flat_refs(alloc: Global, width: u32) -> Result<Refs, AllocError>

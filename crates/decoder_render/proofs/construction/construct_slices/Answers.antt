@@ -18,7 +18,7 @@ pub construct_at-requires-clause-slice : goal.construct_at-requires-clause-slice
 construct_at-requires-clause-slice c =
     let units = c.requires.parsed.0 in
     let n = c.loop-number.number in
-    step_slice c.args.info.now c.args.size (pictures_of c.args.refs.now) units c.args.slices.now c.args.macroblocks.now n c.requires.info c.requires.size (search rules) c.requires.pictures
+    step_slice c.args.info.now c.args.size (pictures_of c.args.refs.now) units c.args.slices.now c.args.macroblocks.now n c.requires.info c.requires.size (search rules)
     (c.requires.parsed.1 n (omega arith))
 
 pub construct_at-requires-clause-macroblocks : goal.construct_at-requires-clause-macroblocks
@@ -85,5 +85,5 @@ loop-number-preserved c =
     record {
       whole = step_whole info size pictures some slices mbs n marks c.construct_at.new.marks tiles c.construct_at.new.into some_unit of_marks of_tiles c.loop-number.invariant.whole true step;
       accepted = λ units parsed. step_accepted info size pictures units slices mbs n marks c.construct_at.new.marks tiles c.construct_at.new.into (parsed n (omega arith)) of_marks of_tiles c.loop-number.invariant.whole step (c.loop-number.invariant.accepted units parsed);
-      marks = step_marks info size pictures some slices mbs n marks c.construct_at.new.marks tiles c.construct_at.new.into some_unit of_marks of_tiles c.loop-number.invariant.whole c.requires.info c.requires.size (search rules) c.requires.pictures step c.loop-number.invariant.marks;
+      marks = step_marks info size pictures some slices mbs n marks c.construct_at.new.marks tiles c.construct_at.new.into some_unit of_marks of_tiles c.loop-number.invariant.whole c.requires.info c.requires.size (search rules) step c.loop-number.invariant.marks;
     }

@@ -67,5 +67,5 @@ returns-clause-outcome c =
     let has : HasSize made c.args.size = record { width = sides.y.width ∙ c.requires.picture.width; height = sides.y.height ∙ c.requires.picture.height } in
     all_there c.args.info.now c.args.size (pictures_of c.args.refs.now) units c.parse_slices-parsed.new.slices c.construct_slices-fault.new.marks c.construct_slices-fault.new.into c.parse_slices-parsed.result.slices
     (omega (arith, c.requires.tiles, c.construct_slices-fault.auto.into)) (omega (arith, c.requires.marks, c.construct_slices-fault.auto.marks)) (omega (arith, covered, inside)) accepted
-    (omega (arith, many, c.if-parsed-units.false, c.parse_slices-parsed.ensures.within)) (omega (arith, total, covered, inside, c.if-missing-gt0.false)) c.requires.pictures
+    (omega (arith, many, c.if-parsed-units.false, c.parse_slices-parsed.ensures.within)) (omega (arith, total, covered, inside, c.if-missing-gt0.false))
     made c.filter.new.picture has c.place_tiles.ensures.samples c.filter.ensures.y c.filter.ensures.cb c.filter.ensures.cr

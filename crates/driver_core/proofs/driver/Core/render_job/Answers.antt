@@ -12,7 +12,6 @@ use Rattle.driver_objects.proofs.Alike.{alike_at, alike_within}
 use Rattle.driver_core.specs.Jobs.{HasPictureThere}
 use Rattle.driver_core.specs.RenderStarts.{AreLent}
 use Rattle.driver_core.specs.Stands.{Stands}
-use Rattle.driver_core.proofs.LentReferences.{lent_held}
 use Rattle.driver_core.proofs.NotedStands.{numbers_same}
 use Rattle.driver_core.proofs.driver.Core.render_job.Goals as goal
 
@@ -27,11 +26,6 @@ note-number-requires-clause-there c =
     let within : target < length (kept_of c.reserve_job.new.self.objects) =
     subst (λ (objects : Objects). target < length (kept_of objects)) (sym c.reserve_job.ensures.objects) (slice_get_within (kept_of c.args.self.now.objects) target has.object has.there) in
     alike_within (kept_of c.reserve_job.new.self.objects) (kept_of c.share_references.new.self.objects) (sym c.share_references.ensures.shares.alike) target within
-
-pub new-requires-clause-pictures : goal.new-requires-clause-pictures
-new-requires-clause-pictures c =
-    lent_held (kept_of c.args.self.now.objects) c.args.info.now c.args.on.now (pictures_of c.in-Ok.refs) c.requires.videos
-    (subst (λ (objects : Objects). AreLent (kept_of objects) c.args.on.now.references (pictures_of c.in-Ok.refs)) c.reserve_job.ensures.objects c.in-Ok.ensures.lent)
 
 pub returns-clause-ok : goal.returns-clause-ok
 returns-clause-ok c =

@@ -60,7 +60,7 @@ fn read_chunk<R: Files>(rt: &R, name: &str, at: u64, buf: &mut [u8]) -> io::Resu
     Ok(n)
 }
 
-// One read. A signal that comes in between doesn't count as a fault.
+// One read. A signal that comes in between doesn't count as a fault, but where no read gets through at all.
 fn read_once<F: Read>(file: &mut F, buf: &mut [u8]) -> io::Result<usize>
     ensures { IfOk result (λ n. n ≤ length buf.old) }
 {
@@ -70,5 +70,5 @@ fn read_once<F: Read>(file: &mut F, buf: &mut [u8]) -> io::Result<usize>
             answer => return answer,
         }
     }
-    Ok(0)
+    Err(io::Error::from(ErrorKind::Interrupted))
 }

@@ -57,7 +57,7 @@ impl<W: Write> Sink for StreamSink<W> {
     }
 }
 
-// One write. A signal that comes in between doesn't count as a fault.
+// One write. A signal that comes in between doesn't count as a fault, but where no write gets through at all.
 fn write_once<W: Write>(to: &mut W, bytes: &[u8]) -> io::Result<usize>
     ensures { IfOk result (λ n. n ≤ length bytes.now) }
 {
@@ -67,5 +67,5 @@ fn write_once<W: Write>(to: &mut W, bytes: &[u8]) -> io::Result<usize>
             answer => return answer,
         }
     }
-    Ok(0)
+    Err(io::Error::from(ErrorKind::Interrupted))
 }

@@ -1,5 +1,5 @@
 -- What a shelf and a sink in memory hold, and which of their calls fail.
-use Rattle.std.specs.Prelude.{ℕ, ◌+◌, ◌-◌, ◌^◌, min, List}
+use Rattle.std.specs.Prelude.{ℕ, ◌+◌, ◌-◌, ◌^◌, min, List, take}
 use Rattle.std.specs.declared.option.Option.{Option}
 use Rattle.std.specs.Option.{option_map, option_map_or}
 use Rattle.std.specs.BTreeMap.{get_by_text}
@@ -37,3 +37,7 @@ next_write sink = sink.writes
 -- how many writes failed
 abbrev pub failed_writes : MemSink → ℕ
 failed_writes sink = sink.failures
+
+-- what had been written when a write failed last; nothing where none failed
+abbrev pub written_then : MemSink → List ℕ
+written_then sink = take sink.length_then sink.written.items

@@ -86,6 +86,7 @@ impl Shelf for MemShelf {
         ensures bytes { IfOk result (λ n. IfSome (file_of self.old name.now) (λ file. Fills file at n buf.old buf.new)) }
         ensures missing { file_of self.old name.now ≡ None → IsErr result }
         ensures cause { HasCause (IsErr result) (faults_at self.old name.now) (faults_at self.new name.now) }
+        ensures one_fault { IsErr result → faults_at self.new name.now ≡ raised (faults_at self.old name.now) }
         ensures no_fault { OnOk result ((other : List ℕ) → faults_at self.new other ≡ faults_at self.old other) }
         ensures untouched { OnErr result (buf.new ≡ buf.old) }
         ensures never_lower { (other : List ℕ) → faults_at self.old other ≤ faults_at self.new other }

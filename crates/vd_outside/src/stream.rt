@@ -1,7 +1,7 @@
 // A real stream: the edge to standard output.
 ghost use Rattle.std.specs.Prelude.{◌≡◌, ◌<◌, ◌≤◌, length, None, IfOk, IsErr, IsErrOf, OnOk};
 ghost use Rattle.std.specs.Io.KnownBytes.{WriteAppends};
-ghost use Rattle.vd_outside.specs.Count.{HasCause};
+ghost use Rattle.vd_outside.specs.Count.{HasCause, raised};
 
 use crate::sink::{Sink, SinkFault};
 use std::io;
@@ -32,11 +32,14 @@ impl<W: Write> Sink for StreamSink<W> {
 
     ghost faults = { failed_writes };
 
+    ghost written_at_fault = { λ _. None };
+
     fn write(&mut self, bytes: &[u8]) -> Result<usize, SinkFault>
         ensures count { IfOk result (λ n. n ≤ length bytes.now) }
         ensures progress { IfOk result (λ n. 0 < length bytes.now → 0 < n) }
         ensures appended { WriteAppends None None result bytes.now }
         ensures cause { HasCause (IsErrOf result SinkFault.Failed) (failed_writes self.old) (failed_writes self.new) }
+        ensures one_fault { IsErrOf result SinkFault.Failed → failed_writes self.new ≡ raised (failed_writes self.old) }
         ensures no_fault { OnOk result (failed_writes self.new ≡ failed_writes self.old) }
         ensures memory { IsErrOf result SinkFault.OutOfMemory → failed_writes self.new ≡ failed_writes self.old }
         ensures never_lower { failed_writes self.old ≤ failed_writes self.new }

@@ -60,11 +60,13 @@ struct ShortSink {
 }
 
 impl Sink for ShortSink {
-    ghost use Rattle.vd_outside.specs.Memory.{failed_writes, written_to};
+    ghost use Rattle.vd_outside.specs.Memory.{failed_writes, written_then, written_to};
 
     ghost written = { λ short. Some (written_to short.sink) };
 
     ghost faults = { λ short. failed_writes short.sink };
+
+    ghost written_at_fault = { λ short. Some (written_then short.sink) };
 
     fn write(&mut self, bytes: &[u8]) -> Result<usize, SinkFault> {
         self.sink.write(&bytes[..bytes.len().min(3)])

@@ -1,6 +1,7 @@
 mod Fronts
 mod HoldLemmas
 mod NextLemmas
+mod OutsideLemmas
 mod PartLemmas
 mod ReadingLemmas
 mod RunLemmas

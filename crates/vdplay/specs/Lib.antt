@@ -4,3 +4,4 @@ pub mod Output
 pub mod Run
 pub mod Reports
 pub mod Reading
+pub mod Outside

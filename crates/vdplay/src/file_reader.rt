@@ -1,9 +1,10 @@
 // A file that is read piece by piece while its pictures are decoded.
-ghost use Rattle.std.specs.Prelude.{◌≡◌, ◌⊎◌, ◌+◌, ◌<◌, ◌≤◌, ℕ, List, [], true, false, drop, take, length, IfErr, IfOk, IfSome, IsErr, IsErrOf, OnOk};
+ghost use Rattle.std.specs.Prelude.{◌≡◌, ◌⊎◌, ◌+◌, ◌<◌, ◌≤◌, ℕ, List, [], true, false, drop, take, length, IfErr, IfOk, IfSome, IsErr, IsErrOf, OnErr, OnOk};
 ghost use Rattle.std.specs.declared.option.Option.{Option};
-ghost use Rattle.vd_outside.specs.Count.{HasCause};
+ghost use Rattle.vd_outside.specs.Count.{HasCause, raised};
 ghost use Rattle.vd_outside.specs.Shelf.{told};
 ghost use Rattle.file_pictures.specs.Streams.{HasSmallDepth, Stream, no_stream};
+ghost use Rattle.vdplay.specs.Outside.{AreSame, IsReadAlone, StopsReading, shelf_state};
 ghost use Rattle.vdplay.specs.Reading.{IsAnswer, IsPiece, Reads, ReadsOn};
 
 use crate::exit::Exit;
@@ -48,8 +49,11 @@ impl FileReader {
         ensures depth { IfOk result HasSmallDepth }
         ensures kept { S.content shelf.new ≡ S.content shelf.old }
         ensures cause { HasCause (IsErrOf result Exit.ReadFault) (S.faults shelf.old name.now) (S.faults shelf.new name.now) }
-        ensures faultless { OnOk result (S.faults shelf.new name.now ≡ S.faults shelf.old name.now) }
+        ensures faultless { OnOk result (AreSame (S.faults shelf.old) (S.faults shelf.new)) }
+        ensures alone { IsReadAlone name.now (shelf_state (S.content shelf.old) (S.faults shelf.old) (S.reads shelf.old))
+            (shelf_state (S.content shelf.new) (S.faults shelf.new) (S.reads shelf.new)) }
         ensures exits { IfErr result (λ exit. (exit ≡ Exit.ReadFault) ⊎ (exit ≡ Exit.OutOfMemory)) }
+        ensures stops { IfErr result (λ exit. StopsReading exit name.now (S.faults shelf.old) (S.faults shelf.new)) }
     {
         while !self.ended {
             match self.decoder.next()? {
@@ -68,8 +72,11 @@ impl FileReader {
         ensures further { OnOk result ((self.old.at < self.new.at) ⊎ ((self.new.at ≡ self.old.at) × (self.new.ended ≡ true))) }
         ensures kept { S.content shelf.new ≡ S.content shelf.old }
         ensures cause { HasCause (IsErrOf result Exit.ReadFault) (S.faults shelf.old name.now) (S.faults shelf.new name.now) }
-        ensures faultless { OnOk result (S.faults shelf.new name.now ≡ S.faults shelf.old name.now) }
+        ensures faultless { OnOk result (AreSame (S.faults shelf.old) (S.faults shelf.new)) }
+        ensures alone { IsReadAlone name.now (shelf_state (S.content shelf.old) (S.faults shelf.old) (S.reads shelf.old))
+            (shelf_state (S.content shelf.new) (S.faults shelf.new) (S.reads shelf.new)) }
         ensures exits { IfErr result (λ exit. (exit ≡ Exit.ReadFault) ⊎ (exit ≡ Exit.OutOfMemory)) }
+        ensures stops { IfErr result (λ exit. StopsReading exit name.now (S.faults shelf.old) (S.faults shelf.new)) }
     {
         let n = read_piece(shelf, name, self.at, &mut self.piece)?;
         self.decoder.feed(&self.piece[..n])?;
@@ -93,7 +100,10 @@ fn read_piece<S: Shelf>(
     ensures bytes { IfOk result (λ n. IfSome (told (S.content shelf.old) name.now) (IsPiece at n (take n piece.new))) }
     ensures kept { S.content shelf.new ≡ S.content shelf.old }
     ensures cause { HasCause (IsErr result) (S.faults shelf.old name.now) (S.faults shelf.new name.now) }
-    ensures faultless { OnOk result (S.faults shelf.new name.now ≡ S.faults shelf.old name.now) }
+    ensures faultless { OnOk result (AreSame (S.faults shelf.old) (S.faults shelf.new)) }
+    ensures alone { IsReadAlone name.now (shelf_state (S.content shelf.old) (S.faults shelf.old) (S.reads shelf.old))
+        (shelf_state (S.content shelf.new) (S.faults shelf.new) (S.reads shelf.new)) }
+    ensures stops { OnErr result (S.faults shelf.new name.now ≡ raised (S.faults shelf.old name.now)) }
 {
     let room = piece.len().min((MAX_FILE - at) as usize);
     shelf.read_at(name, at, &mut piece[..room])

@@ -1,9 +1,10 @@
 // One file from its first byte to its last, or to the first access unit that isn't accepted.
 ghost use Rattle.std.specs.Prelude.{◌≡◌, ◌⊎◌, ◌<◌, ◌≤◌, ℕ, List, [], true, false, length, IfErr, IfOk, IfSome, IsErr, IsErrOf, OnOk, OnErr, None, MatchBool};
 ghost use Rattle.std.specs.declared.option.Option.{Option};
-ghost use Rattle.vd_outside.specs.Count.{HasCause};
-ghost use Rattle.vd_outside.specs.Shelf.{told};
+ghost use Rattle.vd_outside.specs.Count.{HasCause, raised};
+ghost use Rattle.vd_outside.specs.Shelf.{IsMissing, told};
 ghost use Rattle.file_pictures.specs.Streams.{no_stream};
+ghost use Rattle.vdplay.specs.Outside.{AreSame, IsReadAlone, Leaves, shelf_state, sink_state};
 ghost use Rattle.vdplay.specs.Reading.{Reads};
 ghost use Rattle.vdplay.specs.Reports.{HasWritten, command_of};
 ghost use Rattle.vdplay.specs.Run.{HasRun, exit_in, refusal_of};
@@ -27,8 +28,14 @@ pub fn run_file<S: Shelf, K: Sink>(
     report: &mut Report,
 ) -> Result<(), Exit>
     requires { HasWritten report.old [] (K.written sink.old) (K.written sink.old) }
-    ensures { HasRun (told (S.content shelf.old) name.now) (command_of report.old) (K.written sink.old) (K.written sink.new)
+    ensures run { HasRun (told (S.content shelf.old) name.now) (command_of report.old) (K.written sink.old) (K.written sink.new)
         (S.faults shelf.old name.now) (S.faults shelf.new name.now) (K.faults sink.old) (K.faults sink.new) (exit_in result) }
+    ensures left { Leaves (exit_in result) name.now
+        (shelf_state (S.content shelf.old) (S.faults shelf.old) (S.reads shelf.old))
+        (shelf_state (S.content shelf.new) (S.faults shelf.new) (S.reads shelf.new))
+        (sink_state (K.written sink.old) (K.faults sink.old) (K.written_at_fault sink.old))
+        (sink_state (K.written sink.new) (K.faults sink.new) (K.written_at_fault sink.new)) }
+    ensures missing { IsMissing (S.content shelf.old) name.now → sink.new ≡ sink.old }
 {
     if is_too_long(shelf, name)? {
         report.end(sink, Some(0))?;
@@ -48,8 +55,13 @@ fn run_reader<S: Shelf, K: Sink>(
 ) -> Result<(), Exit>
     requires reads { Reads reader.old (told (S.content shelf.old) name.now) no_stream }
     requires written { HasWritten report.old [] (K.written sink.old) (K.written sink.old) }
-    ensures { HasRun (told (S.content shelf.old) name.now) (command_of report.old) (K.written sink.old) (K.written sink.new)
+    ensures run { HasRun (told (S.content shelf.old) name.now) (command_of report.old) (K.written sink.old) (K.written sink.new)
         (S.faults shelf.old name.now) (S.faults shelf.new name.now) (K.faults sink.old) (K.faults sink.new) (exit_in result) }
+    ensures left { Leaves (exit_in result) name.now
+        (shelf_state (S.content shelf.old) (S.faults shelf.old) (S.reads shelf.old))
+        (shelf_state (S.content shelf.new) (S.faults shelf.new) (S.reads shelf.new))
+        (sink_state (K.written sink.old) (K.faults sink.old) (K.written_at_fault sink.old))
+        (sink_state (K.written sink.new) (K.faults sink.new) (K.written_at_fault sink.new)) }
 {
     for _given in 0..MAX_ANSWERS {
         match reader.next(shelf, name)? {
@@ -70,7 +82,11 @@ fn is_too_long<S: Shelf>(shelf: &mut S, name: &str) -> Result<bool, Failed>
     ensures long { IfOk result (λ long. IfSome (told (S.content shelf.old) name.now) (λ file. MatchBool long (1073741824 < length file) (length file ≤ 1073741824))) }
     ensures kept { S.content shelf.new ≡ S.content shelf.old }
     ensures cause { HasCause (IsErr result) (S.faults shelf.old name.now) (S.faults shelf.new name.now) }
-    ensures faultless { OnOk result (S.faults shelf.new name.now ≡ S.faults shelf.old name.now) }
+    ensures faultless { OnOk result (AreSame (S.faults shelf.old) (S.faults shelf.new)) }
+    ensures missing { IsMissing (S.content shelf.old) name.now → IsErr result }
+    ensures alone { IsReadAlone name.now (shelf_state (S.content shelf.old) (S.faults shelf.old) (S.reads shelf.old))
+        (shelf_state (S.content shelf.new) (S.faults shelf.new) (S.reads shelf.new)) }
+    ensures stops { OnErr result (S.faults shelf.new name.now ≡ raised (S.faults shelf.old name.now)) }
 {
     let mut byte = [0; 1];
     let n = shelf.read_at(name, MAX_FILE, &mut byte)?;

@@ -8,6 +8,7 @@ ghost use Rattle.file_pictures.specs.Streams.{Shows};
 ghost use Rattle.std.specs.String.{string_bytes};
 ghost use Rattle.access_units.specs.Pictures.{periods};
 ghost use Rattle.vdplay.specs.Output.{last_line, line_with, picture_line};
+ghost use Rattle.vdplay.specs.Outside.{StopsWriting, sink_state};
 ghost use Rattle.vdplay.specs.Run.{AppendsFront};
 ghost use Rattle.vdplay.specs.Reports.{CountsPeriods, IsNextOf};
 
@@ -45,6 +46,9 @@ impl LineWriter {
         ensures cause { HasCause (IsErrOf result Exit.WriteFault) (K.faults sink.old) (K.faults sink.new) }
         ensures faultless { OnOk result (K.faults sink.new ≡ K.faults sink.old) }
         ensures exits { IfErr result (λ exit. (exit ≡ Exit.WriteFault) ⊎ (exit ≡ Exit.OutOfMemory)) }
+        ensures stops { IfErr result (λ exit. StopsWriting exit
+            (sink_state (K.written sink.old) (K.faults sink.old) (K.written_at_fault sink.old))
+            (sink_state (K.written sink.new) (K.faults sink.new) (K.written_at_fault sink.new))) }
     {
         let period = self.period_of(shown.period);
         let line = line_of(self.alloc, shown.offset, period, shown.poc)?;
@@ -71,6 +75,9 @@ impl LineWriter {
         ensures cause { HasCause (IsErrOf result Exit.WriteFault) (K.faults sink.old) (K.faults sink.new) }
         ensures faultless { OnOk result (K.faults sink.new ≡ K.faults sink.old) }
         ensures exits { IfErr result (λ exit. (exit ≡ Exit.WriteFault) ⊎ (exit ≡ Exit.OutOfMemory)) }
+        ensures stops { IfErr result (λ exit. StopsWriting exit
+            (sink_state (K.written sink.old) (K.faults sink.old) (K.written_at_fault sink.old))
+            (sink_state (K.written sink.new) (K.faults sink.new) (K.written_at_fault sink.new))) }
     {
         let Some(offset) = refused else {
             write_all(sink, b"END\n")?;

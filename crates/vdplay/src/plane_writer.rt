@@ -8,6 +8,7 @@ ghost use Rattle.file_pictures.specs.Files.{Decoded};
 ghost use Rattle.file_pictures.specs.Streams.{Shows};
 ghost use Rattle.output_order.specs.OutputOrder.{History, has_settled, nothing_yet, popping};
 ghost use Rattle.vdplay.specs.Output.{planes_at, planes_in_order, planes_of};
+ghost use Rattle.vdplay.specs.Outside.{StopsWriting, sink_state};
 ghost use Rattle.vdplay.specs.Run.{AppendsFront};
 ghost use Rattle.vdplay.specs.Reports.{AppendsAhead, Holds, IsCalm, IsNextOf, IsOut, Stands, planes_out, pushed_by, with_out};
 ghost use Rattle.vdplay.specs.declared.command_line.Command.TheVariants.{Decode};
@@ -61,6 +62,9 @@ impl PlaneWriter {
         ensures cause { HasCause (IsErrOf result Exit.WriteFault) (K.faults sink.old) (K.faults sink.new) }
         ensures faultless { OnOk result (K.faults sink.new ≡ K.faults sink.old) }
         ensures exits { IfErr result (λ exit. (exit ≡ Exit.WriteFault) ⊎ (exit ≡ Exit.OutOfMemory)) }
+        ensures stops { IfErr result (λ exit. StopsWriting exit
+            (sink_state (K.written sink.old) (K.faults sink.old) (K.written_at_fault sink.old))
+            (sink_state (K.written sink.new) (K.faults sink.new) (K.written_at_fault sink.new))) }
     {
         self.hold(shown)?;
         self.write_settled(sink)
@@ -97,6 +101,9 @@ impl PlaneWriter {
         ensures cause { HasCause (IsErrOf result Exit.WriteFault) (K.faults sink.old) (K.faults sink.new) }
         ensures faultless { OnOk result (K.faults sink.new ≡ K.faults sink.old) }
         ensures exits { IfErr result (λ exit. (exit ≡ Exit.WriteFault) ⊎ (exit ≡ Exit.OutOfMemory)) }
+        ensures stops { IfErr result (λ exit. StopsWriting exit
+            (sink_state (K.written sink.old) (K.faults sink.old) (K.written_at_fault sink.old))
+            (sink_state (K.written sink.new) (K.faults sink.new) (K.written_at_fault sink.new))) }
     {
         self.waiting.end();
         self.write_settled(sink)
@@ -115,6 +122,9 @@ impl PlaneWriter {
         ensures cause { HasCause (IsErrOf result Exit.WriteFault) (K.faults sink.old) (K.faults sink.new) }
         ensures faultless { OnOk result (K.faults sink.new ≡ K.faults sink.old) }
         ensures exits { IfErr result (λ exit. (exit ≡ Exit.WriteFault) ⊎ (exit ≡ Exit.OutOfMemory)) }
+        ensures stops { IfErr result (λ exit. StopsWriting exit
+            (sink_state (K.written sink.old) (K.faults sink.old) (K.written_at_fault sink.old))
+            (sink_state (K.written sink.new) (K.faults sink.new) (K.written_at_fault sink.new))) }
     {
         while let Some(samples) = self.next_out() {
             write_picture(sink, &samples)?;
@@ -144,6 +154,9 @@ fn write_picture<K: Sink>(sink: &mut K, picture: &Picture) -> Result<(), Exit>
     ensures cause { HasCause (IsErrOf result Exit.WriteFault) (K.faults sink.old) (K.faults sink.new) }
     ensures faultless { OnOk result (K.faults sink.new ≡ K.faults sink.old) }
     ensures exits { IfErr result (λ exit. (exit ≡ Exit.WriteFault) ⊎ (exit ≡ Exit.OutOfMemory)) }
+    ensures stops { IfErr result (λ exit. StopsWriting exit
+        (sink_state (K.written sink.old) (K.faults sink.old) (K.written_at_fault sink.old))
+        (sink_state (K.written sink.new) (K.faults sink.new) (K.written_at_fault sink.new))) }
 {
     write_all(sink, picture.y.samples())?;
     write_all(sink, picture.cb.samples())?;

@@ -6,6 +6,7 @@ ghost use Rattle.vd_outside.specs.Count.{HasCause};
 ghost use Rattle.file_pictures.specs.Files.{Decoded};
 ghost use Rattle.file_pictures.specs.Streams.{Shows};
 ghost use Rattle.vdplay.specs.Output.{text_of};
+ghost use Rattle.vdplay.specs.Outside.{StopsWriting, sink_state};
 ghost use Rattle.vdplay.specs.Run.{AppendsFront};
 ghost use Rattle.vdplay.specs.Reports.{AppendsAhead, HasWritten, IsNextOf, command_of};
 
@@ -47,6 +48,9 @@ impl Report {
         ensures cause { HasCause (IsErrOf result Exit.WriteFault) (K.faults sink.old) (K.faults sink.new) }
         ensures faultless { OnOk result (K.faults sink.new ≡ K.faults sink.old) }
         ensures exits { IfErr result (λ exit. (exit ≡ Exit.WriteFault) ⊎ (exit ≡ Exit.OutOfMemory)) }
+        ensures stops { IfErr result (λ exit. StopsWriting exit
+            (sink_state (K.written sink.old) (K.faults sink.old) (K.written_at_fault sink.old))
+            (sink_state (K.written sink.new) (K.faults sink.new) (K.written_at_fault sink.new))) }
     {
         match self {
             Report::Planes(writer) => writer.picture(sink, shown),
@@ -64,6 +68,9 @@ impl Report {
         ensures cause { HasCause (IsErrOf result Exit.WriteFault) (K.faults sink.old) (K.faults sink.new) }
         ensures faultless { OnOk result (K.faults sink.new ≡ K.faults sink.old) }
         ensures exits { IfErr result (λ exit. (exit ≡ Exit.WriteFault) ⊎ (exit ≡ Exit.OutOfMemory)) }
+        ensures stops { IfErr result (λ exit. StopsWriting exit
+            (sink_state (K.written sink.old) (K.faults sink.old) (K.written_at_fault sink.old))
+            (sink_state (K.written sink.new) (K.faults sink.new) (K.written_at_fault sink.new))) }
     {
         match self {
             Report::Planes(writer) => writer.end(sink),

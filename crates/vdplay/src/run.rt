@@ -1,7 +1,10 @@
 // The commands that wait for nobody.
-ghost use Rattle.std.specs.Prelude.{◌≡◌, ◌⊎◌, ◌↔◌, ℕ, List, Some, None, true, false};
+ghost use Rattle.std.specs.Prelude.{◌≡◌, ◌⊎◌, ◌↔◌, ℕ, ◌≤◌, List, Some, None, true, false};
+ghost use Rattle.std.specs.Io.KnownBytes.{Keeps};
 ghost use Rattle.vd_outside.specs.Count.{HasCause, Rose};
+ghost use Rattle.vd_outside.specs.Shelf.{IsMissing};
 ghost use Rattle.vdplay.specs.CommandLine.{IsLine, IsNoLine, texts};
+ghost use Rattle.vdplay.specs.Outside.{LeavesCounts};
 ghost use Rattle.vdplay.specs.Run.{AppendsPart, AppendsText, HasAppended, IsDecided, IsStopped, IsTask, exit_in};
 ghost use Rattle.vdplay.specs.declared.command_line.Command.{Command};
 
@@ -37,6 +40,24 @@ pub fn run_plain<S: Shelf, K: Sink>(
     // A fault ends the run where it is met: none was counted on the way to what the file decides.
     ensures faultless { (command : Command) (name : List ℕ) → IsLine (texts words.now) command name → IsDecided result →
         (S.faults shelf.new name ≡ S.faults shelf.old name) × (K.faults sink.new ≡ K.faults sink.old) }
+
+    // It is the last thing that is met: it is counted once, at the file or at the sink, and the other count stays, as
+    // both do for want of memory. Nothing was written behind a write that failed.
+    ensures counts { (command : Command) (name : List ℕ) → IsLine (texts words.now) command name →
+        LeavesCounts result name (S.faults shelf.old) (S.faults shelf.new) (K.faults sink.old) (K.faults sink.new) }
+    ensures nothing_behind { result ≡ Exit.WriteFault → Keeps (K.written_at_fault sink.new) (K.written sink.new) }
+
+    // Nothing is written for a file that isn't held.
+    ensures missing { (command : Command) (name : List ℕ) → IsLine (texts words.now) command name →
+        IsMissing (S.content shelf.old) name → sink.new ≡ sink.old }
+
+    // Whatever the end, the files are as before, no count of faults is lower, and no file was read but the one that the
+    // words name.
+    ensures kept { S.content shelf.new ≡ S.content shelf.old }
+    ensures reads_never_lower { (name : List ℕ) → S.faults shelf.old name ≤ S.faults shelf.new name }
+    ensures writes_never_lower { K.faults sink.old ≤ K.faults sink.new }
+    ensures no_other { (other : List ℕ) → ((command : Command) → IsLine (texts words.now) command other → ⊥) →
+        S.reads shelf.new other ≡ S.reads shelf.old other }
 
     // A line of the grammar is decided by the file, which is stream 0, or stopped; without a counted fault
     // it is stopped for want of memory alone.

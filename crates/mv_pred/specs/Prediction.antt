@@ -25,12 +25,12 @@ by_reference entry a b c =
     else (if has_reference c entry && not (has_reference a entry) && not (has_reference b entry) then vector_of c
     else median_vector (vector_of a) (vector_of b) (vector_of c)))
 
--- 8.4.1.3, median luma motion vector prediction: where B and C aren't available and A is, both are as A
+-- 8.4.1.3.1, median luma motion vector prediction: where B and C aren't available and A is, both are as A
 abbrev pub median_prediction : ℕ → Near → Near → Near → Vector
 median_prediction entry a b c =
     if is_missing b && is_missing c && not (is_missing a) then by_reference entry a a a else by_reference entry a b c
 
--- the vector of the neighbour on the partition's own side, where that has the reference
+-- 8.4.1.3, 16x8 and 8x16: the vector of the neighbour on the partition's own side, where that has the reference
 abbrev pub directional : ℕ → Near → Vector → Vector
 directional entry side other = if has_reference side entry then vector_of side else other
 

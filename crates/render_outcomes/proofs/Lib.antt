@@ -1,3 +1,4 @@
 pub mod Settled
 pub mod Tables
 pub mod VectorsExist
+pub mod PicturesExist

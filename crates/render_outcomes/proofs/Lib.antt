@@ -3,3 +3,8 @@ pub mod Tables
 pub mod VectorsExist
 pub mod PicturesExist
 pub mod FilteredExist
+pub mod LumaExists
+pub mod MacroblocksExist
+pub mod ConstructionsExist
+pub mod MixedExist
+pub mod PackedExist

@@ -8,3 +8,7 @@ pub mod MacroblocksExist
 pub mod ConstructionsExist
 pub mod MixedExist
 pub mod PackedExist
+pub mod Decisions
+pub mod SlicesFit
+pub mod CoverageExists
+pub mod OutcomesExist

@@ -14,14 +14,14 @@ use Rattle.slice_header.proofs.InfoRanges.{info_ranges}
 use Rattle.decoder_render.specs.Parsed.{CanParse, IsUnparsed}
 use Rattle.decoder_render.specs.Slices.{SpellsSlice}
 use Rattle.decoder_render.proofs.SameSlice.{same_slice}
-use Rattle.render_outcomes.proofs.Decisions.{Decided, decided_alike, decided_both, decided_by, decided_different, decided_either, decided_equal, decided_from, decided_test}
+use Rattle.render_outcomes.proofs.Decisions.{Decided, decided_alike, decided_both, decided_by, decided_different, decided_either, decided_equal, decided_false, decided_from, decided_true}
 
 idr_slice : (header : Header) → Decided (IsIdrSlice header)
 idr_slice header =
     decided_by
     (λ all. record { intra = all.0; frame_num = all.1.0; reference = all.1.1 })
     (λ is. (is.intra, (is.frame_num, is.reference)))
-    (decided_both (decided_test (is_p header) false) (decided_both (decided_equal header.frame_num 0) (decided_different header.head.ref_idc 0)))
+    (decided_both (decided_false (is_p header)) (decided_both (decided_equal header.frame_num 0) (decided_different header.head.ref_idc 0)))
 
 pub accepted_slice : (info : PictureInfo) (first : Header) (covered : ℕ) (header : Header) → Decided (IsAcceptedSlice info first covered header)
 accepted_slice info first covered header =
@@ -29,9 +29,9 @@ accepted_slice info first covered header =
     (λ all. record { frame_num = all.0; reference = all.1.0; unit_type = all.1.1.0; idr = all.1.1.1.0; alike = all.1.1.1.1.0; pps = all.1.1.1.1.1.0; first_mb = all.1.1.1.1.1.1 })
     (λ is. (is.frame_num, (is.reference, (is.unit_type, (is.idr, (is.alike, (is.pps, is.first_mb)))))))
     (decided_both (decided_equal header.frame_num info.frame_num)
-    (decided_both (decided_alike (decided_test info.is_reference true) (decided_different header.head.ref_idc 0))
+    (decided_both (decided_alike (decided_true info.is_reference) (decided_different header.head.ref_idc 0))
     (decided_both (decided_either (decided_equal header.head.unit_type 1) (decided_equal header.head.unit_type 5))
-    (decided_both (decided_from (decided_test (is_idr header) true) (idr_slice header))
+    (decided_both (decided_from (decided_true (is_idr header)) (idr_slice header))
     (decided_both (decided_equal header.head.unit_type first.head.unit_type)
     (decided_both (decided_equal header.pps first.pps) (decided_equal header.first_mb covered)))))))
 
@@ -67,6 +67,6 @@ module _ (info : PictureInfo) (size : SizeMbs) (accepted : IsAcceptedBySome info
   parsed_or_none (inr none) = inr (λ header list mbs parse. none (header, mbs, parse.spelled))
   parsed_or_none (inl is) = elim (accepted_slice info (unwrap_or first is.0) start is.0) [
     | inl fits ↦ listed is.0 is.1 is.2 fits (reference_list info is.0) refl
-    | inr no ↦ inr (λ other list others parse.
-        no (subst (λ (h : Header). IsAcceptedSlice info (unwrap_or first h) start h) (same_header is.0 other is.1 others is.2 parse.spelled) parse.fits))
+    | inr fails ↦ inr (λ other list others parse.
+        fails (subst (λ (h : Header). IsAcceptedSlice info (unwrap_or first h) start h) (same_header is.0 other is.1 others is.2 parse.spelled) parse.fits))
   ]

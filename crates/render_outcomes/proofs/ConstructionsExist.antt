@@ -4,8 +4,7 @@ use Rattle.std.specs.Prelude.{pos}
 use Rattle.std.proofs.lemmas.List.{get_or-replicate, length-replicate, length-set}
 use Rattle.cb_types.specs.declared.mark.MbMark.{MbMark}
 use Rattle.mv_pred.specs.Neighbours.{no_motion}
-use Rattle.motion.specs.Border.{mark_at, no_mark}
-use Rattle.vd_plane.specs.Tiles.{tile_at}
+use Rattle.motion.specs.Border.{no_mark}
 use Rattle.vd_plane.specs.declared.tile.Tile.{Tile}
 use Rattle.recon.specs.Laws.{AreWhole, IsWholeMark, IsWholeTile}
 use Rattle.recon.specs.Rebuilt.{AreRebuilt}

@@ -1,11 +1,10 @@
 -- The units of a picture are accepted one behind the other, or one of them is the first that isn't.
-use Rattle.std.proofs.Common.{◌≡◌, ℕ, zero, suc, ◌+◌, ◌<◌, ◌≤◌, ◌⊎◌, inl, inr, List, [], length, Option, Some, None, refl, sym, ap, ◌∙◌, subst, arith}
+use Rattle.std.proofs.Common.{◌≡◌, ℕ, zero, suc, ◌+◌, ◌≤◌, ◌⊎◌, inl, inr, List, length, Option, Some, None, refl, ap, ◌∙◌, arith}
 use Rattle.std.proofs.lemmas.List.{length-append}
 use Rattle.cb_types.specs.AcceptedInfo.{IsAcceptedBySome}
 use Rattle.cb_types.specs.SizeMbs.{IsWithinLimits, macroblocks}
 use Rattle.ref_lists.specs.declared.list.RefList.{RefList}
-use Rattle.vd_plane.specs.declared.tile.Tile.{Tile}
-use Rattle.decoder_render.specs.Coverage.{AreAccepted, Covered, Covers, CoversNext, Given, IsRefused, covered_with, in_places, nothing, slice_in}
+use Rattle.decoder_render.specs.Coverage.{AreAccepted, Covered, Covers, Given, IsRefused, covered_with, in_places, nothing, slice_in}
 use Rattle.decoder_render.specs.Outcomes.{IsFault}
 use Rattle.decoder_render.specs.Parsed.{IsParsed}
 use Rattle.decoder_render.specs.Submission.{payload_at}
@@ -24,24 +23,24 @@ module _ (g : Given) (accepted : IsAcceptedBySome g.info) (limits : IsWithinLimi
   constructed : (covered : Covered) (payload : List ℕ) (parsed : Parsed g.info g.size covered.first (length covered.tiles) payload)
       → Construction (slice_in g parsed.header parsed.list parsed.mbs) (length parsed.mbs) → Behind covered (Some payload)
   constructed covered payload parsed all = (
-      covered_with covered parsed.header all.marks all.tiles,
-      record {
-        header = parsed.header;
-        list = parsed.list;
-        mbs = parsed.mbs;
-        marks = all.marks;
-        tiles = all.tiles;
-        slice = record {
-          spelled = parsed.parse.spelled;
-          fits = parsed.parse.fits;
-          listed = parsed.parse.listed;
-          of_marks = all.of_marks;
-          of_tiles = all.of_tiles;
-          whole = all.whole;
-          rebuilt = all.rebuilt;
-        };
-        behind = refl;
-      },
+    covered_with covered parsed.header all.marks all.tiles,
+    record {
+      header = parsed.header;
+      list = parsed.list;
+      mbs = parsed.mbs;
+      marks = all.marks;
+      tiles = all.tiles;
+      slice = record {
+        spelled = parsed.parse.spelled;
+        fits = parsed.parse.fits;
+        listed = parsed.parse.listed;
+        of_marks = all.of_marks;
+        of_tiles = all.of_tiles;
+        whole = all.whole;
+        rebuilt = all.rebuilt;
+      };
+      behind = refl;
+    },
   )
 
   stopped : (covered : Covered) (payload : List ℕ) (parsed : Parsed g.info g.size covered.first (length covered.tiles) payload)

@@ -1,5 +1,5 @@
 -- Behind those before it a macroblock has a mark and a tile that meet its equations, or it can't be constructed.
-use Rattle.std.proofs.Common.{◌≡◌, ℕ, ◌+◌, ◌*◌, ◌<◌, ◌⊎◌, true, false, Bool, not, inl, inr, List, length, refl, ◌∙◌, arith}
+use Rattle.std.proofs.Common.{◌≡◌, ℕ, ◌⊎◌, false, not, inl, inr, List, length, refl}
 use Rattle.std.specs.Prelude.{pos, ◌*ℤ◌}
 use Rattle.std.proofs.lemmas.Bool.{both_ways, cases_Bool, not-false, not-true}
 use Rattle.cb_types.specs.declared.macroblock.MbKind.{MbKind}

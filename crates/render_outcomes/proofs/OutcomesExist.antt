@@ -1,11 +1,11 @@
 -- A picture's units come to an outcome, where it is decided of each payload whether it spells a slice.
-use Rattle.std.proofs.Common.{◌≡◌, ℕ, ◌+◌, ◌-◌, ◌<◌, ◌≤◌, inl, inr, List, [], length, Option, arith}
+use Rattle.std.proofs.Common.{ℕ, ◌-◌, ◌≤◌, inl, inr, List, [], length, Option, arith}
 use Rattle.std.proofs.lemmas.Bool.{cases_lt}
 use Rattle.cb_types.specs.AcceptedInfo.{IsAcceptedBySome}
 use Rattle.cb_types.specs.SizeMbs.{IsWithinLimits, macroblocks}
 use Rattle.vd_plane.specs.declared.picture.Picture.{Picture}
 use Rattle.decoder_render.specs.Coverage.{AreAccepted, Covered, Given}
-use Rattle.decoder_render.specs.Outcomes.{IsDecoded, IsOutcome}
+use Rattle.decoder_render.specs.Outcomes.{IsOutcome}
 use Rattle.decoder_render.specs.declared.outcome.Outcome.{Outcome}
 use Rattle.decoder_render.specs.declared.outcome.Outcome.TheVariants as outcome
 use Rattle.render_outcomes.specs.Outcomes.{DecodedPicturesExist}

@@ -1,5 +1,5 @@
 -- Pictures of a size that show given tiles, and planes with other samples.
-use Rattle.std.proofs.Common.{◌≡◌, ℕ, ◌+◌, ◌*◌, ◌%◌, ◌<◌, ◌≤◌, List, length, refl, ◌∙◌, arith}
+use Rattle.std.proofs.Common.{◌≡◌, ℕ, ◌*◌, ◌%◌, ◌≤◌, List, length, refl, ◌∙◌, arith}
 use Rattle.cb_types.specs.SizeMbs.{IsWithinLimits}
 use Rattle.cb_types.specs.declared.size.SizeMbs.{SizeMbs}
 use Rattle.vd_plane.specs.ChromaFormat.{Is420}

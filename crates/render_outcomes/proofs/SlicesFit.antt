@@ -1,5 +1,5 @@
 -- Whether a slice that is spelled fits its picture behind those before it is decided.
-use Rattle.std.proofs.Common.{◌≡◌, ℕ, ◌⊎◌, true, false, inl, inr, List, length, Option, Some, None, refl, sym, ap, ◌∙◌, subst}
+use Rattle.std.proofs.Common.{◌≡◌, ℕ, ◌⊎◌, inl, inr, List, Option, Some, None, refl, sym, ap, ◌∙◌, subst}
 use Rattle.std.specs.Prelude.{unwrap_or}
 use Rattle.cb_types.specs.AcceptedInfo.{IsAcceptedBySome}
 use Rattle.cb_types.specs.SizeMbs.{IsWithinLimits}

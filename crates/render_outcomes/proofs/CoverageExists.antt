@@ -3,37 +3,42 @@ use Rattle.std.proofs.Common.{◌≡◌, ℕ, zero, suc, ◌+◌, ◌≤◌, ◌
 use Rattle.std.proofs.lemmas.List.{length-append}
 use Rattle.cb_types.specs.AcceptedInfo.{IsAcceptedBySome}
 use Rattle.cb_types.specs.SizeMbs.{IsWithinLimits, macroblocks}
+use Rattle.cb_types.specs.declared.header.Header.{Header}
+use Rattle.cb_types.specs.declared.macroblock.Macroblock.{Macroblock}
 use Rattle.ref_lists.specs.declared.list.RefList.{RefList}
 use Rattle.decoder_render.specs.Coverage.{AreAccepted, Covered, Covers, Given, IsRefused, covered_with, in_places, nothing, slice_in}
 use Rattle.decoder_render.specs.Outcomes.{IsFault}
-use Rattle.decoder_render.specs.Parsed.{IsParsed}
+use Rattle.decoder_render.specs.Parsed.{CanParse, IsParsed}
 use Rattle.decoder_render.specs.Submission.{payload_at}
 use Rattle.decoder_render.specs.declared.parsing.ParsedSlice.{ParsedSlice}
 use Rattle.decoder_render.proofs.CoverLemmas.{is_refused, unparsed_refused}
 use Rattle.render_outcomes.specs.Constructions.{Construction, Stop}
 use Rattle.render_outcomes.proofs.ConstructionsExist.{slices_are_constructed_or_stop}
-use Rattle.render_outcomes.proofs.Decisions.{Decided}
-use Rattle.render_outcomes.proofs.SlicesFit.{IsSpelled, Parsed, parsed_or_none}
+use Rattle.render_outcomes.proofs.Readings.{Decided, ParsesAsSome}
 
-module _ (g : Given) (accepted : IsAcceptedBySome g.info) (limits : IsWithinLimits g.size) (spelled : (payload : List ℕ) → Decided (IsSpelled g.info g.size payload)) where
+module _ (g : Given) (accepted : IsAcceptedBySome g.info) (limits : IsWithinLimits g.size)
+    (reads : (first : Option Header) (covered : ℕ) (payload : List ℕ) → Decided (ParsesAsSome g.info g.size first covered payload)) where
   -- what is covered behind a unit
   abbrev Behind : Covered → Option (List ℕ) → Type 0
   Behind covered unit = (after : Covered) × Covers g covered unit after
 
-  constructed : (covered : Covered) (payload : List ℕ) (parsed : Parsed g.info g.size covered.first (length covered.tiles) payload)
-      → Construction (slice_in g parsed.header parsed.list parsed.mbs) (length parsed.mbs) → Behind covered (Some payload)
-  constructed covered payload parsed all = (
-    covered_with covered parsed.header all.marks all.tiles,
+  abbrev Reads : Covered → List ℕ → Header → List (Option ℕ) → List Macroblock → Type 0
+  Reads covered payload header list mbs = CanParse g.info g.size covered.first (length covered.tiles) payload header list mbs
+
+  constructed : (covered : Covered) (payload : List ℕ) (header : Header) (list : List (Option ℕ)) (mbs : List Macroblock)
+      → Reads covered payload header list mbs → Construction (slice_in g header list mbs) (length mbs) → Behind covered (Some payload)
+  constructed covered payload header list mbs parse all = (
+    covered_with covered header all.marks all.tiles,
     record {
-      header = parsed.header;
-      list = parsed.list;
-      mbs = parsed.mbs;
+      header = header;
+      list = list;
+      mbs = mbs;
       marks = all.marks;
       tiles = all.tiles;
       slice = record {
-        spelled = parsed.parse.spelled;
-        fits = parsed.parse.fits;
-        listed = parsed.parse.listed;
+        spelled = parse.spelled;
+        fits = parse.fits;
+        listed = parse.listed;
         of_marks = all.of_marks;
         of_tiles = all.of_tiles;
         whole = all.whole;
@@ -43,26 +48,32 @@ module _ (g : Given) (accepted : IsAcceptedBySome g.info) (limits : IsWithinLimi
     },
   )
 
-  stopped : (covered : Covered) (payload : List ℕ) (parsed : Parsed g.info g.size covered.first (length covered.tiles) payload)
-      → Stop (slice_in g parsed.header parsed.list parsed.mbs) (length parsed.mbs) → IsRefused g covered (Some payload)
-  stopped covered payload parsed stop =
-      let list : RefList = record { length = length parsed.list; entries = in_places parsed.list } in
-      let slice : ParsedSlice = record { header = parsed.header; list = list; count = length parsed.mbs } in
-      let is : IsParsed g.info g.size covered.first (length covered.tiles) payload slice parsed.mbs = record { list = parsed.list; parse = parsed.parse; entries = refl; count = refl } in
-      is_refused g.info g.size g.pictures covered.first (length covered.tiles) (Some payload) payload slice parsed.mbs covered stop.marks stop.tiles accepted limits refl is stop.whole stop.stops
+  stopped : (covered : Covered) (payload : List ℕ) (header : Header) (list : List (Option ℕ)) (mbs : List Macroblock)
+      → Reads covered payload header list mbs → Stop (slice_in g header list mbs) (length mbs) → IsRefused g covered (Some payload)
+  stopped covered payload header list mbs parse stop =
+      let entries : RefList = record { length = length list; entries = in_places list } in
+      let slice : ParsedSlice = record { header = header; list = entries; count = length mbs } in
+      let is : IsParsed g.info g.size covered.first (length covered.tiles) payload slice mbs = record { list = list; parse = parse; entries = refl; count = refl } in
+      is_refused g.info g.size g.pictures covered.first (length covered.tiles) (Some payload) payload slice mbs covered stop.marks stop.tiles
+      accepted limits refl is stop.whole stop.stops
+
+  unread : (covered : Covered) (payload : List ℕ) → (ParsesAsSome g.info g.size covered.first (length covered.tiles) payload → ⊥) → IsRefused g covered (Some payload)
+  unread covered payload none =
+      unparsed_refused g.info g.size g.pictures covered.first (length covered.tiles) (Some payload) covered refl refl (λ header list mbs parse. none (header, list, mbs, parse))
 
   covers_or_refused : (covered : Covered) (unit : Option (List ℕ)) → Behind covered unit ⊎ IsRefused g covered unit
   covers_or_refused covered None = inr (λ after covers. covers)
-  covers_or_refused covered (Some payload) = elim (parsed_or_none g.info g.size accepted limits covered.first (length covered.tiles) payload (spelled payload)) [
-    | inr none ↦ inr (unparsed_refused g.info g.size g.pictures covered.first (length covered.tiles) (Some payload) covered refl refl none)
-    | inl parsed ↦ elim (slices_are_constructed_or_stop (slice_in g parsed.header parsed.list parsed.mbs) (length parsed.mbs) limits.some_column) [
-      | inl all ↦ inl (constructed covered payload parsed all)
-      | inr stop ↦ inr (stopped covered payload parsed stop)
+  covers_or_refused covered (Some payload) = elim (reads covered.first (length covered.tiles) payload) [
+    | inr none ↦ inr (unread covered payload none)
+    | inl is ↦ elim (slices_are_constructed_or_stop (slice_in g is.0 is.1 is.2) (length is.2) limits.some_column) [
+      | inl all ↦ inl (constructed covered payload is.0 is.1 is.2 is.3 all)
+      | inr stop ↦ inr (stopped covered payload is.0 is.1 is.2 is.3 stop)
     ]
   ]
 
   -- so many units are accepted, or there is a fault
-  pub accepted_or_fault : (units : List (Option (List ℕ))) (count : ℕ) → count ≤ length units → ((covered : Covered) × AreAccepted g units count covered) ⊎ ((number : ℕ) × IsFault g units number)
+  pub accepted_or_fault : (units : List (Option (List ℕ))) (count : ℕ) → count ≤ length units
+      → ((covered : Covered) × AreAccepted g units count covered) ⊎ ((number : ℕ) × IsFault g units number)
   unfolding AreAccepted
   accepted_or_fault units zero within = inl (nothing, refl)
   accepted_or_fault units (suc count) within = elim (accepted_or_fault units count (omega arith)) [

@@ -8,7 +8,6 @@ pub mod MacroblocksExist
 pub mod ConstructionsExist
 pub mod MixedExist
 pub mod PackedExist
-pub mod Decisions
-pub mod SlicesFit
+pub mod Readings
 pub mod CoverageExists
 pub mod OutcomesExist

@@ -1,8 +1,9 @@
--- A picture's units come to an outcome, where it is decided of each payload whether it spells a slice.
+-- A picture's units come to an outcome, where it is decided of each payload whether it is read as a slice.
 use Rattle.std.proofs.Common.{ℕ, ◌-◌, ◌≤◌, inl, inr, List, [], length, Option, arith}
 use Rattle.std.proofs.lemmas.Bool.{cases_lt}
 use Rattle.cb_types.specs.AcceptedInfo.{IsAcceptedBySome}
 use Rattle.cb_types.specs.SizeMbs.{IsWithinLimits, macroblocks}
+use Rattle.cb_types.specs.declared.header.Header.{Header}
 use Rattle.vd_plane.specs.declared.picture.Picture.{Picture}
 use Rattle.decoder_render.specs.Coverage.{AreAccepted, Covered, Given}
 use Rattle.decoder_render.specs.Outcomes.{IsOutcome}
@@ -10,10 +11,9 @@ use Rattle.decoder_render.specs.declared.outcome.Outcome.{Outcome}
 use Rattle.decoder_render.specs.declared.outcome.Outcome.TheVariants as outcome
 use Rattle.render_outcomes.specs.Outcomes.{DecodedPicturesExist}
 use Rattle.render_outcomes.proofs.CoverageExists.{accepted_or_fault, accepted_within}
-use Rattle.render_outcomes.proofs.Decisions.{Decided}
 use Rattle.render_outcomes.proofs.FilteredExist.{filtered_picture}
 use Rattle.render_outcomes.proofs.PicturesExist.{shown_picture, shown_size, shown_tiles}
-use Rattle.render_outcomes.proofs.SlicesFit.{IsSpelled}
+use Rattle.render_outcomes.proofs.Readings.{Decided, ParsesAsSome}
 
 pub decoded_pictures_exist : DecodedPicturesExist
 decoded_pictures_exist g covered limits =
@@ -43,8 +43,9 @@ all_accepted g units covered limits are =
       | inr le ↦ (outcome.Ok, decoded.0, record { covered = covered; accepted = are; all = omega arith; decoded = decoded.1 })
     ]
 
-pub comes_to : (g : Given) (units : List (Option (List ℕ))) → IsAcceptedBySome g.info → IsWithinLimits g.size → ((payload : List ℕ) → Decided (IsSpelled g.info g.size payload)) → Comes g units
-comes_to g units accepted limits spelled = elim (accepted_or_fault g accepted limits spelled units (length units) (omega arith)) [
+pub comes_to : (g : Given) (units : List (Option (List ℕ))) → IsAcceptedBySome g.info → IsWithinLimits g.size
+    → ((first : Option Header) (covered : ℕ) (payload : List ℕ) → Decided (ParsesAsSome g.info g.size first covered payload)) → Comes g units
+comes_to g units accepted limits reads = elim (accepted_or_fault g accepted limits reads units (length units) (omega arith)) [
   | inl all ↦ all_accepted g units all.0 limits all.1
   | inr fault ↦ (outcome.Bitstream fault.0, shown_picture [] g.size limits, fault.1)
 ]

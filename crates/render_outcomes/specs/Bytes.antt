@@ -7,7 +7,8 @@ use Rattle.vd_plane.specs.declared.picture.Picture.{Picture}
 
 -- Each picture has its pixels by each matrix and in each format.
 abbrev pub MixedBytesExist : Type 0
-MixedBytesExist = (picture : Picture) (matrix : List ℤ) (format : ℕ) → (bytes : List ℕ) × IsMixed picture matrix format bytes
+MixedBytesExist =
+    (picture : Picture) (matrix : List ℤ) (format : ℕ) → (bytes : List ℕ) × IsMixed picture matrix format bytes
 
 -- As many bytes as a picture has are those of a picture of its size.
 abbrev pub PackedPicturesExist : Type 0

@@ -1,5 +1,5 @@
--- That the construction of a slice comes to an end: all its marks and samples exist, or there is the first macroblock that can't be
--- constructed (H.264, clause 8).
+-- That the construction of a slice comes to an end: all its marks and samples exist, or there is the first
+-- macroblock that can't be constructed (H.264, clause 8).
 use Rattle.std.specs.Prelude.{◌≡◌, ℕ, ◌≤◌, ◌⊎◌, List, length}
 use Rattle.cb_types.specs.declared.mark.MbMark.{MbMark}
 use Rattle.recon.specs.Laws.{AreWhole}
@@ -25,4 +25,7 @@ pub record Stop (slice : Slice) (count : ℕ) : Type 0 where
 
 -- A slice has one of the two.
 abbrev pub SlicesAreConstructedOrStop : Type 0
-SlicesAreConstructedOrStop = (slice : Slice) (count : ℕ) → 1 ≤ slice.size.width → Construction slice count ⊎ Stop slice count
+SlicesAreConstructedOrStop =
+    (slice : Slice) (count : ℕ)
+    → 1 ≤ slice.size.width
+    → Construction slice count ⊎ Stop slice count

@@ -9,7 +9,10 @@ use Rattle.decoder_render.specs.declared.outcome.Outcome.{Outcome}
 
 -- What is covered has its picture behind the deblocking filter.
 abbrev pub DecodedPicturesExist : Type 0
-DecodedPicturesExist = (g : Given) (covered : Covered) → IsWithinLimits g.size → (picture : Picture) × IsDecoded g covered picture
+DecodedPicturesExist =
+    (g : Given) (covered : Covered)
+    → IsWithinLimits g.size
+    → (picture : Picture) × IsDecoded g covered picture
 
 -- Each list of units has an outcome, and a picture where they are all that it needs.
 abbrev pub OutcomesExist : Type 0

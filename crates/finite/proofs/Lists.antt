@@ -75,11 +75,11 @@ each_of P (x ∷ xs) decide =
 
 -- whether a list begins with another, and what is left of it then
 pub begins : {A : Type 0} → ((a b : A) → Decided (a ≡ b)) → (front whole : List A) (Q : List A → Type 0)
-    → ((rest : List A) → Decided (Q rest))
+    → ((rest : List A) → whole ≡ front ++ rest → Decided (Q rest))
     → Decided ((rest : List A) × (whole ≡ front ++ rest) × Q rest)
 begins decide front whole Q each =
     decided_as (λ h. (drop (length front) whole, h.0, h.1)) (λ found. (same found.0 found.1, subst Q (sym (left found.0 found.1)) found.2))
-    (both (equal_lists decide whole (front ++ drop (length front) whole)) (λ e. each (drop (length front) whole)))
+    (both (equal_lists decide whole (front ++ drop (length front) whole)) (λ e. each (drop (length front) whole) e))
   where
     left : (rest : List _) → whole ≡ front ++ rest → drop (length front) whole ≡ rest
     left rest e = ap (drop (length front)) e ∙ drop-append_seam front rest

@@ -3,7 +3,7 @@ use Rattle.std.proofs.Common.{◌≡◌, ◌⊎◌, inl, inr, refl, sym, subst, 
 use Rattle.std.specs.Option.{IfSome}
 use Rattle.finite.specs.Decided.{Decided}
 use Rattle.finite.specs.Finite.{Finite}
-use Rattle.finite.proofs.Deciding.{both, decided_as, either}
+use Rattle.finite.proofs.Deciding.{both, decided_as, either, never}
 
 -- a narrower property that is decided
 pub narrower : {A : Type 0} {P : A → Type 0} (R : A → Type 0) → Finite P → ((x : A) → P x → Decided (R x))
@@ -11,6 +11,13 @@ pub narrower : {A : Type 0} {P : A → Type 0} (R : A → Type 0) → Finite P �
 narrower R finite decide within = record {
   find = λ Q each. decided_as (λ found. (found.0, found.2.0, found.2.1)) (λ found. (found.0, within found.0 found.1, (found.1, found.2)))
       (finite.find (λ x. R x × Q x) (λ x p. both (decide x p) (λ r. each x r)));
+}
+
+-- the same property in other words
+pub same : {A : Type 0} {P : A → Type 0} (R : A → Type 0) → Finite P → ((x : A) → P x → R x) → ((x : A) → R x → P x) → Finite R
+same R finite to back = record {
+  find = λ Q each. decided_as (λ found. (found.0, to found.0 found.1, found.2)) (λ found. (found.0, back found.0 found.1, found.2))
+      (finite.find Q (λ x p. each x (to x p)));
 }
 
 -- one value
@@ -70,3 +77,28 @@ options {A} P finite = onto (λ (o : Option A). IfSome o P) (λ (o : Option A). 
     (joined (single {A = Option A} None) (onto (λ (o : Option A). (x : A) × P x × (o ≡ Some x)) (λ (x : A). Some x) finite
     (λ x p. (x, p, refl)) (λ o found. (found.0, found.1, sym found.2))))
     (λ o h. of_some P o h) (λ o h. (o, some_of P o h, refl))
+
+-- ---- values of several forms, each form with its own function
+
+IsOf : {A B : Type 0} → (A → B) → B → Type 0
+IsOf {A} f y = (x : A) × (f x ≡ y)
+
+-- a form more
+pub formed : {A B : Type 0} (R : B → Type 0) (f : A → B) {Other : B → Type 0} → Finite (λ (x : A). R (f x)) → Finite (λ (y : B). R y × Other y)
+    → Finite (λ (y : B). R y × (((x : A) × (f x ≡ y)) ⊎ Other y))
+unfolding IsOf
+formed {A} {B} R f {Other} finite others = record {
+  find = λ Q each. decided_as (together Q) (λ found. parted Q found.0 found.1.0 found.1.1 found.2)
+      (either (finite.find (λ x. Q (f x)) (λ x r. each (f x) (r, inl (x, refl)))) (others.find Q (λ y h. each y (h.0, inr h.1))));
+}
+  where
+    together : (Q : B → Type 0) → ((x : A) × R (f x) × Q (f x)) ⊎ ((y : B) × (R y × Other y) × Q y) → (y : B) × (R y × (IsOf f y ⊎ Other y)) × Q y
+    together Q (inl found) = (f found.0, (found.1, inl (found.0, refl)), found.2)
+    together Q (inr found) = (found.0, (found.1.0, inr found.1.1), found.2)
+
+    parted : (Q : B → Type 0) (y : B) → R y → IsOf f y ⊎ Other y → Q y → ((x : A) × R (f x) × Q (f x)) ⊎ ((y : B) × (R y × Other y) × Q y)
+    parted Q y r (inl from) q = inl (from.0, subst R (sym from.1) r, subst Q (sym from.1) q)
+    parted Q y r (inr other) q = inr (y, (r, other), q)
+
+pub formless : {B : Type 0} (R : B → Type 0) → Finite (λ (y : B). R y × ⊥)
+formless R = record { find = λ Q each. never (λ found. absurd found.1.1) }

@@ -73,8 +73,8 @@ next_decided : (slice : Slice) (before : List Macroblock) (kind : MbKind) (block
 next_decided slice before kind blocks block =
     let place = length blocks in
     decided_as (λ h. record { coded = h.0; not_coded = h.1 }) (λ h. (h.coded, h.not_coded))
-      (both (implies (equal_booleans (is_coded kind place) true) (λ h. spelling_decided (nc_at slice before blocks place) (most_levels kind place) block))
-        (λ h. implies (equal_booleans (is_coded kind place) false) (λ h. equal_lists equal_integers block (replicate 16 (pos 0)))))
+    (both (implies (equal_booleans (is_coded kind place) true) (λ h. spelling_decided (nc_at slice before blocks place) (most_levels kind place) block))
+    (λ h. implies (equal_booleans (is_coded kind place) false) (λ h. equal_lists equal_integers block (replicate 16 (pos 0)))))
 
 pub blocks_decided : (slice : Slice) (before : List Macroblock) (kind : MbKind) (blocks : List (List ℤ)) → Decided (AreBlocks slice before kind blocks)
 blocks_decided slice before kind blocks = each_in_turn (IsNextBlock slice before kind) block_behind [] blocks (next_decided slice before kind)

@@ -42,12 +42,12 @@ levels_arrays = onto IsLevels (λ (block : List ℤ). let levels : Levels = reco
 dc_arrays : Finite IsDc
 unfolding IsDc
 dc_arrays = onto IsDc (λ (xs : List ℤ). let levels : DcLevels = record { 0 = xs } in levels) (lists_of IsLevel levels_few 4)
-  (λ xs h. h) (λ levels h. (levels.0, h, refl))
+    (λ xs h. h) (λ levels h. (levels.0, h, refl))
 
 plane_arrays : Finite IsPlane
 unfolding IsPlane
 plane_arrays = onto IsPlane (λ (xs : List Levels). let plane : ChromaLevels = record { 0 = xs } in plane) (lists_of IsLevels levels_arrays 4)
-  (λ xs h. h) (λ plane h. (plane.0, h, refl))
+    (λ xs h. h) (λ plane h. (plane.0, h, refl))
 
 -- a macroblock, but for how its blocks are spelled
 record IsNear (slice : Slice) (mb : Macroblock) : Type 0 where
@@ -73,21 +73,21 @@ parts_of mb = (mb.kind, (mb.qp_delta, (mb.luma_dc, (mb.luma, (mb.chroma_dc, mb.c
 
 near_few : (slice : Slice) → Finite (IsNear slice)
 near_few slice = onto (IsNear slice) of_parts
-  (pairs (kinds_few slice) (λ kind h. pairs (integers_between (negsuc 25) (pos 25)) (λ delta h. pairs blocks_few
+    (pairs (kinds_few slice) (λ kind h. pairs (integers_between (negsuc 25) (pos 25)) (λ delta h. pairs blocks_few
     (λ dc h. pairs (lists_of IsLevels levels_arrays 16) (λ luma h. pairs (lists_of IsDc dc_arrays 2) (λ dcs h. lists_of IsPlane plane_arrays 2))))))
-  (λ p h. record {
-    kind = h.0;
-    least = h.1.0.0;
-    greatest = h.1.0.1;
-    luma_dc = h.1.1.0;
-    luma_size = h.1.1.1.0.0;
-    luma = h.1.1.1.0.1;
-    dc_size = h.1.1.1.1.0.0;
-    dc = h.1.1.1.1.0.1;
-    chroma_size = h.1.1.1.1.1.0;
-    chroma = h.1.1.1.1.1.1;
-  })
-  (λ mb h. (parts_of mb, (h.kind, ((h.least, h.greatest), (h.luma_dc, ((h.luma_size, h.luma), ((h.dc_size, h.dc), (h.chroma_size, h.chroma)))))), refl))
+    (λ p h. record {
+      kind = h.0;
+      least = h.1.0.0;
+      greatest = h.1.0.1;
+      luma_dc = h.1.1.0;
+      luma_size = h.1.1.1.0.0;
+      luma = h.1.1.1.0.1;
+      dc_size = h.1.1.1.1.0.0;
+      dc = h.1.1.1.1.0.1;
+      chroma_size = h.1.1.1.1.1.0;
+      chroma = h.1.1.1.1.1.1;
+    })
+    (λ mb h. (parts_of mb, (h.kind, ((h.least, h.greatest), (h.luma_dc, ((h.luma_size, h.luma), ((h.dc_size, h.dc), (h.chroma_size, h.chroma)))))), refl))
 
 -- ---- a macroblock that is spelled is near
 
@@ -129,8 +129,8 @@ coded_near slice before mb h =
 delta_decided : (kind : MbKind) (delta : ℤ) → Decided (IsQpDelta kind delta)
 delta_decided kind delta =
     decided_as (λ h. record { least = h.0; greatest = h.1.0; absent = h.1.1 }) (λ h. (h.least, (h.greatest, h.absent)))
-      (both (integer_at_most (negsuc 25) delta) (λ h. both (integer_at_most delta (pos 25))
-        (λ h. implies (equal_booleans (has_qp_delta kind) false) (λ h. equal_integers delta (pos 0)))))
+    (both (integer_at_most (negsuc 25) delta) (λ h. both (integer_at_most delta (pos 25))
+    (λ h. implies (equal_booleans (has_qp_delta kind) false) (λ h. equal_integers delta (pos 0)))))
 
 dc_sizes : (mb : Macroblock) → All IsDc mb.chroma_dc → All (λ levels. length levels.0 ≡ 4) mb.chroma_dc
 unfolding IsDc
@@ -142,18 +142,18 @@ plane_sizes mb h k d below = (h k d below).0
 
 coded_decided : (slice : Slice) (before : List Macroblock) (mb : Macroblock) → IsNear slice mb → Decided (IsCoded slice before mb)
 coded_decided slice before mb near = decided_as
-  (λ h. record {
-    kind = near.kind;
-    qp_delta = h.0;
-    luma = near.luma_size;
-    chroma_dc = near.dc_size;
-    chroma_dc_levels = dc_sizes mb near.dc;
-    chroma = near.chroma_size;
-    chroma_blocks = plane_sizes mb near.chroma;
-    blocks = h.1;
-  })
-  (λ h. (h.qp_delta, h.blocks))
-  (both (delta_decided mb.kind mb.qp_delta) (λ h. blocks_decided slice before mb.kind (blocks_of mb)))
+    (λ h. record {
+      kind = near.kind;
+      qp_delta = h.0;
+      luma = near.luma_size;
+      chroma_dc = near.dc_size;
+      chroma_dc_levels = dc_sizes mb near.dc;
+      chroma = near.chroma_size;
+      chroma_blocks = plane_sizes mb near.chroma;
+      blocks = h.1;
+    })
+    (λ h. (h.qp_delta, h.blocks))
+    (both (delta_decided mb.kind mb.qp_delta) (λ h. blocks_decided slice before mb.kind (blocks_of mb)))
 
 -- a macroblock that a slice may have: a skipped one, or one near to those that are spelled
 pub IsFew : Slice → Macroblock → Type 0
@@ -173,11 +173,11 @@ not_coded slice before mb e h = subst (λ (mb : Macroblock). IsKind slice mb.kin
 
 spelling_of_few : (slice : Slice) (before : List Macroblock) (mb : Macroblock) → (mb ≡ skipped) ⊎ IsNear slice mb → Decided (HasSpelling slice before mb)
 spelling_of_few slice before mb (inl e) = either
-  (decided_as (λ p. record { in_p = p; same = e }) (λ h. h.in_p) (equal_booleans slice.is_p true))
-  (never (not_coded slice before mb e))
+    (decided_as (λ p. record { in_p = p; same = e }) (λ h. h.in_p) (equal_booleans slice.is_p true))
+    (never (not_coded slice before mb e))
 spelling_of_few slice before mb (inr near) = either
-  (never (λ h. subst (λ (mb : Macroblock). IsKind slice mb.kind) h.same near.kind))
-  (coded_decided slice before mb near)
+    (never (λ h. subst (λ (mb : Macroblock). IsKind slice mb.kind) h.same near.kind))
+    (coded_decided slice before mb near)
 
 pub spelling_decided : (slice : Slice) (before : List Macroblock) (mb : Macroblock) → IsFew slice mb → Decided (HasSpelling slice before mb)
 unfolding IsFew

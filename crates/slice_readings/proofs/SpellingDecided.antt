@@ -8,7 +8,6 @@ use Rattle.cavlc.specs.Blocks.{HasRunCode, HasSpelling, HasZerosCode, left_behin
 use Rattle.cavlc.specs.Coefficients.{levels, runs, total_coeff, total_zeros, trailing_ones}
 use Rattle.cavlc.specs.Levels.{HasLevelCode, HaveLevelCodes, escape, first_level, level_code, next_level}
 use Rattle.cavlc.specs.Turns.{AreInTurn}
-use Rattle.cavlc.specs.declared.levels.LevelState.{LevelState}
 use Rattle.cb_tables.specs.CoeffToken.{IsToken, most_levels}
 use Rattle.cb_tables.specs.RunBefore.{IsRun, longest_run}
 use Rattle.cb_tables.specs.TotalZeros.{IsDcZeros, IsTotalZeros}
@@ -31,32 +30,32 @@ each_in_turn {S} {V} IsV next s vs decide = few_in_turn (λ (v : V). Unit {0}) I
 
 -- ---- the elements of a block
 
-level_code_decided : (state : LevelState) (level : ℤ) → Decided (HasLevelCode state level)
-level_code_decided state level =
-    decided_as (λ h. record { nonzero = h.0; least = h.1.0; prefix = h.1.1 }) (λ h. (h.nonzero, (h.least, h.prefix)))
-      (both (negated (equal_integers level (pos 0))) (λ h. both (at_most state.least (level_code level))
-        (λ h. below (level_code level - state.least) (escape state.suffix_length + 2 ^ 12))))
+code_decided : (suffix_length least : ℕ) (level : ℤ)
+    → Decided ((level ≢ pos 0) × ((least ≤ level_code level) × (level_code level - least < escape suffix_length + 2 ^ 12)))
+code_decided suffix_length least level =
+    both (negated (equal_integers level (pos 0))) (λ h. both (at_most least (level_code level))
+    (λ h. below (level_code level - least) (escape suffix_length + 2 ^ 12)))
 
 token_decided : (list total ones : ℕ) → Decided (IsToken list total ones)
 token_decided list total ones =
     decided_as (λ h. record { listed = h.0; levels = h.1.0; trailing = h.1.1 }) (λ h. (h.listed, (h.levels, h.trailing)))
-      (both (at_most list 4) (λ h. both (at_most total (most_levels list)) (λ h. at_most ones (min 3 total))))
+    (both (at_most list 4) (λ h. both (at_most total (most_levels list)) (λ h. at_most ones (min 3 total))))
 
 dc_zeros_decided : (total zeros : ℕ) → Decided (IsDcZeros total zeros)
 dc_zeros_decided total zeros =
     decided_as (λ h. record { some = h.0; most = h.1.0; within = h.1.1 }) (λ h. (h.some, (h.most, h.within)))
-      (both (at_most 1 total) (λ h. both (at_most total 3) (λ h. at_most (total + zeros) 4)))
+    (both (at_most 1 total) (λ h. both (at_most total 3) (λ h. at_most (total + zeros) 4)))
 
 total_zeros_decided : (total zeros : ℕ) → Decided (IsTotalZeros total zeros)
 total_zeros_decided total zeros =
     decided_as (λ h. record { some = h.0; most = h.1.0; within = h.1.1 }) (λ h. (h.some, (h.most, h.within)))
-      (both (at_most 1 total) (λ h. both (at_most total 15) (λ h. at_most (total + zeros) 16)))
+    (both (at_most 1 total) (λ h. both (at_most total 15) (λ h. at_most (total + zeros) 16)))
 
 zeros_decided : (most total zeros : ℕ) → Decided (HasZerosCode most total zeros)
 zeros_decided most total zeros =
     decided_as (λ h. record { chroma_dc = h.0; others = h.1 }) (λ h. (h.chroma_dc, h.others))
-      (both (implies (at_most 1 total) (λ h. implies (below total most) (λ h. implies (equal_numbers most 4) (λ h. dc_zeros_decided total zeros))))
-        (λ h. implies (at_most 1 total) (λ h. implies (below total most) (λ h. implies (negated (equal_numbers most 4)) (λ h. total_zeros_decided total zeros)))))
+    (both (implies (at_most 1 total) (λ h. implies (below total most) (λ h. implies (equal_numbers most 4) (λ h. dc_zeros_decided total zeros))))
+    (λ h. implies (at_most 1 total) (λ h. implies (below total most) (λ h. implies (negated (equal_numbers most 4)) (λ h. total_zeros_decided total zeros)))))
 
 run_decided : (left run : ℕ) → Decided (IsRun left run)
 run_decided left run = decided_as (λ h. record { some = h.0; most = h.1 }) (λ h. (h.some, h.most)) (both (at_most 1 left) (λ h. at_most run (longest_run left)))
@@ -64,7 +63,7 @@ run_decided left run = decided_as (λ h. record { some = h.0; most = h.1 }) (λ 
 run_code_decided : (left run : ℕ) → Decided (HasRunCode left run)
 run_code_decided left run =
     decided_as (λ h. record { within = h.0; listed = h.1 }) (λ h. (h.within, h.listed))
-      (both (at_most run left) (λ h. implies (at_most 1 left) (λ h. run_decided left run)))
+    (both (at_most run left) (λ h. implies (at_most 1 left) (λ h. run_decided left run)))
 
 -- ---- a block
 
@@ -80,19 +79,21 @@ zero_from_decided : (most : ℕ) (c : List ℤ) → Decided (IsZeroFrom most c)
 unfolding IsZeroFrom
 zero_from_decided most c =
     decided_as (everywhere most c) (λ all place h. all place)
-      (every_below (λ place. most ≤ place → get_or c place (pos 0) ≡ pos 0) (length c)
-        (λ place h. implies (at_most most place) (λ h. equal_integers (get_or c place (pos 0)) (pos 0))))
+    (every_below (λ place. most ≤ place → get_or c place (pos 0) ≡ pos 0) (length c)
+    (λ place h. implies (at_most most place) (λ h. equal_integers (get_or c place (pos 0)) (pos 0))))
 
 pub spelling_decided : (nc : ℤ) (most : ℕ) (c : List ℤ) → Decided (HasSpelling nc most c)
 unfolding IsZeroFrom
 spelling_decided nc most c =
     decided_as
-      (λ h. record { size = h.0; beyond = h.1.0; token = h.1.1.0; level_codes = h.1.1.1.0; zeros_code = h.1.1.1.1.0; run_codes = h.1.1.1.1.1 })
-      (λ h. (h.size, (h.beyond, (h.token, (h.level_codes, (h.zeros_code, h.run_codes))))))
-      (both (equal_numbers (length c) 16) (λ h. both (zero_from_decided most c)
-        (λ h. both (token_decided (token_list nc) (total_coeff c) (trailing_ones c)) (λ h. both (levels_decided c)
-          (λ h. both (zeros_decided most (total_coeff c) (total_zeros c))
-            (λ h. each_in_turn HasRunCode left_behind (total_zeros c) (runs c) run_code_decided))))))
+    (λ h. record { size = h.0; beyond = h.1.0; token = h.1.1.0; level_codes = h.1.1.1.0; zeros_code = h.1.1.1.1.0; run_codes = h.1.1.1.1.1 })
+    (λ h. (h.size, (h.beyond, (h.token, (h.level_codes, (h.zeros_code, h.run_codes))))))
+    (both (equal_numbers (length c) 16) (λ h. both (zero_from_decided most c)
+    (λ h. both (token_decided (token_list nc) (total_coeff c) (trailing_ones c)) (λ h. both (levels_decided c)
+    (λ h. both (zeros_decided most (total_coeff c) (total_zeros c))
+    (λ h. each_in_turn HasRunCode left_behind (total_zeros c) (runs c) run_code_decided))))))
   where
     levels_decided : (c : List ℤ) → Decided (HaveLevelCodes (total_coeff c) (trailing_ones c) (levels c))
-    levels_decided c = each_in_turn HasLevelCode next_level (first_level (total_coeff c) (trailing_ones c)) (drop (trailing_ones c) (levels c)) level_code_decided
+    levels_decided c = each_in_turn HasLevelCode next_level (first_level (total_coeff c) (trailing_ones c)) (drop (trailing_ones c) (levels c))
+        (λ state level. decided_as (λ h. record { nonzero = h.0; least = h.1.0; prefix = h.1.1 }) (λ h. (h.nonzero, (h.least, h.prefix)))
+        (code_decided state.suffix_length state.least level))

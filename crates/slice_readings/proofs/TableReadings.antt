@@ -20,12 +20,14 @@ BeginsBefore {A} {V} IsValue code rule more whole p =
 begins_few : {A V : Type 0} (IsValue : V → Type 0) (code : V → List Bool) (rule : Rule V) (more : V → Syntax A) (whole : List Bool) → Finite IsValue
     → ((v : V) (rest : List Bool) → Finite (λ (p : A × List Bool). Takes (more v) rest p.0 p.1)) → Finite (BeginsBefore IsValue code rule more whole)
 unfolding BeginsBefore
-begins_few {A} {V} IsValue code rule more whole values behind = record { find = λ Q each. decided_as
-  (λ found. (found.2.1.2.0, (found.0, found.2.1.0, found.1, found.2.0, found.2.1.1, found.2.1.2.1), found.2.1.2.2))
-  (λ found. (found.1.0, found.1.2, (found.1.3, (found.1.1, found.1.4, (found.0, found.1.5, found.2)))))
-  (values.find (λ v. (rule v ≡ None) × ((rest : List Bool) × (whole ≡ code v ++ rest) × ((p : A × List Bool) × Takes (more v) rest p.0 p.1 × Q p)))
-    (λ v is. both (is_none (rule v)) (λ accepted. begins equal_booleans (code v) whole _
-      (λ rest e. (behind v rest).find Q (λ p takes. each p (v, rest, is, accepted, e, takes)))))) }
+begins_few {A} {V} IsValue code rule more whole values behind = record {
+  find = λ Q each. decided_as
+      (λ found. (found.2.1.2.0, (found.0, found.2.1.0, found.1, found.2.0, found.2.1.1, found.2.1.2.1), found.2.1.2.2))
+      (λ found. (found.1.0, found.1.2, (found.1.3, (found.1.1, found.1.4, (found.0, found.1.5, found.2)))))
+      (values.find (λ v. (rule v ≡ None) × ((rest : List Bool) × (whole ≡ code v ++ rest) × ((p : A × List Bool) × Takes (more v) rest p.0 p.1 × Q p)))
+      (λ v is. both (is_none (rule v)) (λ accepted. begins equal_booleans (code v) whole _
+      (λ rest e. (behind v rest).find Q (λ p takes. each p (v, rest, is, accepted, e, takes))))));
+}
 
 -- ---- the elements of a table
 
@@ -41,15 +43,18 @@ module _ {A V : Type 0} (IsValue : V → Type 0) (code : V → List Bool) (rule 
 
   joined : (whole : List Bool) (a : A) (rest : List Bool) → BeginsBefore IsValue code rule more whole (a, rest) → Joined whole a rest
   unfolding BeginsBefore Joined
-  joined whole a rest (v, left, is, accepted, e, takes) =
-      (code v ++ takes.front, (v, takes.front, is, accepted, refl, takes.spelled),
-        e ∙ ap (λ (x : List Bool). code v ++ x) takes.parts ∙ sym (append_assoc (code v) takes.front rest))
+  joined whole a rest (v, left, is, accepted, e, takes) = (
+    code v ++ takes.front,
+    (v, takes.front, is, accepted, refl, takes.spelled),
+    e ∙ ap (λ (x : List Bool). code v ++ x) takes.parts ∙ sym (append_assoc (code v) takes.front rest),
+  )
 
 made_few : {A : Type 0} (a : A) (whole : List Bool) → Finite (λ (p : A × List Bool). Takes (Made a) whole p.0 p.1)
 made_few {A} a whole = same (λ (p : A × List Bool). Takes (Made a) whole p.0 p.1) (single {A = A × List Bool} (a, whole)) (λ p e. made p e) (λ p h. is_made p h)
   where
     made : (p : A × List Bool) → p ≡ (a, whole) → Takes (Made a) whole p.0 p.1
     made p e = record { front = []; spelled = (refl, ap (λ (p : A × List Bool). p.0) (sym e)); parts = ap (λ (p : A × List Bool). p.1) (sym e) }
+
     is_made : (p : A × List Bool) → Takes (Made a) whole p.0 p.1 → p ≡ (a, whole)
     is_made p h =
         let left : whole ≡ p.1 = h.parts ∙ ap (λ (x : List Bool). x ++ p.1) h.spelled.0 in
@@ -59,14 +64,14 @@ pub takes_few : {A : Type 0} (table : Syntax A) (whole : List Bool) → Finite (
 unfolding Joined
 takes_few (Made a) whole = made_few a whole
 takes_few {A} (U n rule more) whole = same (λ (p : A × List Bool). Takes (U n rule more) whole p.0 p.1)
-  (begins_few (IsU n) (λ v. bits.u v n) rule more whole (numbers_below (2 ^ n)) (λ v rest. takes_few (more v) rest))
-  (λ p h. let j = joined (IsU n) (λ v. bits.u v n) rule more whole p.0 p.1 h in record { front = j.0; spelled = j.1; parts = j.2 })
-  (λ p h. parted (IsU n) (λ v. bits.u v n) rule more h.front p.1 p.0 whole h.spelled h.parts)
+    (begins_few (IsU n) (λ v. bits.u v n) rule more whole (numbers_below (2 ^ n)) (λ v rest. takes_few (more v) rest))
+    (λ p h. let j = joined (IsU n) (λ v. bits.u v n) rule more whole p.0 p.1 h in record { front = j.0; spelled = j.1; parts = j.2 })
+    (λ p h. parted (IsU n) (λ v. bits.u v n) rule more h.front p.1 p.0 whole h.spelled h.parts)
 takes_few {A} (Ue rule more) whole = same (λ (p : A × List Bool). Takes (Ue rule more) whole p.0 p.1)
-  (begins_few IsUe codewords.ue rule more whole (numbers_up_to (2 ^ 32 - 2)) (λ v rest. takes_few (more v) rest))
-  (λ p h. let j = joined IsUe codewords.ue rule more whole p.0 p.1 h in record { front = j.0; spelled = j.1; parts = j.2 })
-  (λ p h. parted IsUe codewords.ue rule more h.front p.1 p.0 whole h.spelled h.parts)
+    (begins_few IsUe codewords.ue rule more whole (numbers_up_to (2 ^ 32 - 2)) (λ v rest. takes_few (more v) rest))
+    (λ p h. let j = joined IsUe codewords.ue rule more whole p.0 p.1 h in record { front = j.0; spelled = j.1; parts = j.2 })
+    (λ p h. parted IsUe codewords.ue rule more h.front p.1 p.0 whole h.spelled h.parts)
 takes_few {A} (Se rule more) whole = same (λ (p : A × List Bool). Takes (Se rule more) whole p.0 p.1)
-  (begins_few IsSe codewords.se rule more whole (integers_below (2 ^ 31)) (λ v rest. takes_few (more v) rest))
-  (λ p h. let j = joined IsSe codewords.se rule more whole p.0 p.1 h in record { front = j.0; spelled = j.1; parts = j.2 })
-  (λ p h. parted IsSe codewords.se rule more h.front p.1 p.0 whole h.spelled h.parts)
+    (begins_few IsSe codewords.se rule more whole (integers_below (2 ^ 31)) (λ v rest. takes_few (more v) rest))
+    (λ p h. let j = joined IsSe codewords.se rule more whole p.0 p.1 h in record { front = j.0; spelled = j.1; parts = j.2 })
+    (λ p h. parted IsSe codewords.se rule more h.front p.1 p.0 whole h.spelled h.parts)

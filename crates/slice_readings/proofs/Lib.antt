@@ -1,0 +1,7 @@
+pub mod BlockChoices
+pub mod KindChoices
+pub mod MacroblockChoices
+pub mod SliceDataChoices
+pub mod SliceReadings
+pub mod SpellingDecided
+pub mod TableReadings

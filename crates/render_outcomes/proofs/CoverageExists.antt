@@ -12,9 +12,10 @@ use Rattle.decoder_render.specs.Parsed.{CanParse, IsParsed}
 use Rattle.decoder_render.specs.Submission.{payload_at}
 use Rattle.decoder_render.specs.declared.parsing.ParsedSlice.{ParsedSlice}
 use Rattle.decoder_render.proofs.CoverLemmas.{is_refused, unparsed_refused}
+use Rattle.finite.specs.Decided.{Decided}
+use Rattle.slice_readings.specs.Readings.{ParsesAsSome}
 use Rattle.render_outcomes.specs.Constructions.{Construction, Stop}
 use Rattle.render_outcomes.proofs.ConstructionsExist.{slices_are_constructed_or_stop}
-use Rattle.render_outcomes.proofs.Readings.{Decided, ParsesAsSome}
 
 module _ (g : Given) (accepted : IsAcceptedBySome g.info) (limits : IsWithinLimits g.size)
     (reads : (first : Option Header) (covered : ℕ) (payload : List ℕ) → Decided (ParsesAsSome g.info g.size first covered payload)) where

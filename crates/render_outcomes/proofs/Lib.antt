@@ -8,6 +8,5 @@ pub mod MacroblocksExist
 pub mod ConstructionsExist
 pub mod MixedExist
 pub mod PackedExist
-pub mod Readings
 pub mod CoverageExists
 pub mod OutcomesExist

@@ -9,11 +9,13 @@ use Rattle.decoder_render.specs.Coverage.{AreAccepted, Covered, Given}
 use Rattle.decoder_render.specs.Outcomes.{IsOutcome}
 use Rattle.decoder_render.specs.declared.outcome.Outcome.{Outcome}
 use Rattle.decoder_render.specs.declared.outcome.Outcome.TheVariants as outcome
-use Rattle.render_outcomes.specs.Outcomes.{DecodedPicturesExist}
+use Rattle.finite.specs.Decided.{Decided}
+use Rattle.slice_readings.specs.Readings.{ParsesAsSome}
+use Rattle.slice_readings.proofs.SliceReadings.{parses_decided}
+use Rattle.render_outcomes.specs.Outcomes.{DecodedPicturesExist, OutcomesExist}
 use Rattle.render_outcomes.proofs.CoverageExists.{accepted_or_fault, accepted_within}
 use Rattle.render_outcomes.proofs.FilteredExist.{filtered_picture}
 use Rattle.render_outcomes.proofs.PicturesExist.{shown_picture, shown_size, shown_tiles}
-use Rattle.render_outcomes.proofs.Readings.{Decided, ParsesAsSome}
 
 pub decoded_pictures_exist : DecodedPicturesExist
 decoded_pictures_exist g covered limits =
@@ -49,3 +51,7 @@ comes_to g units accepted limits reads = elim (accepted_or_fault g accepted limi
   | inl all ↦ all_accepted g units all.0 limits all.1
   | inr fault ↦ (outcome.Bitstream fault.0, shown_picture [] g.size limits, fault.1)
 ]
+
+-- and it is
+pub outcomes_exist : OutcomesExist
+outcomes_exist g units accepted limits = comes_to g units accepted limits (λ first covered payload. parses_decided g.info g.size first covered payload)

@@ -7,4 +7,4 @@ mod bytes;
 mod renders;
 
 pub use bytes::{mixed_bytes_exist, packed_pictures_exist};
-pub use renders::{decoded_pictures_exist, slices_are_constructed_or_stop};
+pub use renders::{decoded_pictures_exist, outcomes_exist, slices_are_constructed_or_stop};

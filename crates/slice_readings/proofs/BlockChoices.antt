@@ -59,17 +59,22 @@ spelled_blocks_few nc most = narrower (HasSpelling nc most) blocks_few (λ block
 
 -- ---- the blocks of a macroblock
 
-one_block : (coded : Bool) (nc : ℤ) (most : ℕ) (block : List ℤ) → (coded ≡ true → HasSpelling nc most block) → (coded ≡ false → block ≡ replicate 16 (pos 0)) → IsBlock block
+one_block : (coded : Bool) (nc : ℤ) (most : ℕ) (block : List ℤ) → (coded ≡ true → HasSpelling nc most block)
+    → (coded ≡ false → block ≡ replicate 16 (pos 0)) → IsBlock block
 one_block true nc most block h k = spelled_block nc most block (h refl)
 one_block false nc most block h k = subst IsBlock (sym (k refl)) zero_block
 
-pub blocks_are : (slice : Slice) (before : List Macroblock) (kind : MbKind) (blocks : List (List ℤ)) → AreBlocks slice before kind blocks → All IsBlock blocks
+pub blocks_are : (slice : Slice) (before : List Macroblock) (kind : MbKind) (blocks : List (List ℤ)) → AreBlocks slice before kind blocks
+    → All IsBlock blocks
 blocks_are slice before kind blocks h k d below =
     let behind = state_behind block_behind [] (take k blocks) in
-    let next : IsNextBlock slice before kind behind (get_or blocks k d) = is_at (IsNextBlock slice before kind) (next_block_bits slice before kind) block_behind [] blocks k d below h in
-    one_block (is_coded kind (length behind)) (nc_at slice before behind (length behind)) (most_levels kind (length behind)) (get_or blocks k d) next.coded next.not_coded
+    let next : IsNextBlock slice before kind behind (get_or blocks k d) =
+    is_at (IsNextBlock slice before kind) (next_block_bits slice before kind) block_behind [] blocks k d below h in
+    one_block (is_coded kind (length behind)) (nc_at slice before behind (length behind)) (most_levels kind (length behind)) (get_or blocks k d)
+    next.coded next.not_coded
 
-next_decided : (slice : Slice) (before : List Macroblock) (kind : MbKind) (blocks : List (List ℤ)) (block : List ℤ) → Decided (IsNextBlock slice before kind blocks block)
+next_decided : (slice : Slice) (before : List Macroblock) (kind : MbKind) (blocks : List (List ℤ)) (block : List ℤ)
+    → Decided (IsNextBlock slice before kind blocks block)
 next_decided slice before kind blocks block =
     let place = length blocks in
     decided_as (λ h. record { coded = h.0; not_coded = h.1 }) (λ h. (h.coded, h.not_coded))

@@ -88,7 +88,8 @@ subs_few slice = narrower (IsSub slice) (near_subs_few slice)
     (λ sub near. decided_as
     (λ h. record { kind = near.kind; reference = near.reference; size = near.size; spelled = h.0; others = h.1 })
     (λ h. (h.spelled, h.others))
-    (both (each_of IsVector (take (sub_parts sub.kind) sub.deltas) vector_decided) (λ h. each_of IsZeroVector (drop (sub_parts sub.kind) sub.deltas) zero_decided)))
+    (both (each_of IsVector (take (sub_parts sub.kind) sub.deltas) vector_decided)
+    (λ h. each_of IsZeroVector (drop (sub_parts sub.kind) sub.deltas) zero_decided)))
     (λ sub h. record { kind = h.kind; reference = h.reference; size = h.size; vectors = all_vectors (sub_parts sub.kind) sub.deltas h.spelled h.others })
 
 first_subs_few : (slice : Slice) → Finite (IsFirstSub slice)

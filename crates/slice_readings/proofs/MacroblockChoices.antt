@@ -37,7 +37,8 @@ IsPlane plane = (length plane.0 ≡ 4) × All IsLevels plane.0
 
 levels_arrays : Finite IsLevels
 unfolding IsLevels
-levels_arrays = onto IsLevels (λ (block : List ℤ). let levels : Levels = record { 0 = block } in levels) blocks_few (λ block h. h) (λ levels h. (levels.0, h, refl))
+levels_arrays = onto IsLevels (λ (block : List ℤ). let levels : Levels = record { 0 = block } in levels) blocks_few
+    (λ block h. h) (λ levels h. (levels.0, h, refl))
 
 dc_arrays : Finite IsDc
 unfolding IsDc
@@ -171,7 +172,8 @@ spelled_few slice before mb (inr h) = inr (coded_near slice before mb h)
 not_coded : (slice : Slice) (before : List Macroblock) (mb : Macroblock) → mb ≡ skipped → IsCoded slice before mb → ⊥
 not_coded slice before mb e h = subst (λ (mb : Macroblock). IsKind slice mb.kind) e h.kind
 
-spelling_of_few : (slice : Slice) (before : List Macroblock) (mb : Macroblock) → (mb ≡ skipped) ⊎ IsNear slice mb → Decided (HasSpelling slice before mb)
+spelling_of_few : (slice : Slice) (before : List Macroblock) (mb : Macroblock) → (mb ≡ skipped) ⊎ IsNear slice mb
+    → Decided (HasSpelling slice before mb)
 spelling_of_few slice before mb (inl e) = either
     (decided_as (λ p. record { in_p = p; same = e }) (λ h. h.in_p) (equal_booleans slice.is_p true))
     (never (not_coded slice before mb e))

@@ -1,12 +1,12 @@
 -- The blocks that have a spelling are few.
-use Rattle.std.proofs.Common.{◌≡◌, ℕ, zero, suc, ◌+◌, ◌<◌, ◌≤◌, Bool, true, false, List, [], ◌∷◌, ◌++◌, length, map, get_or, take, replicate, refl, sym, subst, arith, ℤ, pos, unsigned_abs}
+use Rattle.std.proofs.Common.{◌≡◌, ℕ, ◌+◌, ◌<◌, Bool, true, false, List, [], ◌∷◌, ◌++◌, length, map, get_or, take, replicate, refl, sym, subst, arith, ℤ, pos, unsigned_abs}
 use Rattle.std.specs.List.{All, flat_map}
-use Rattle.std.proofs.lemmas.List.{get_or-append-add, get_or-map, get_or_append_left, get_or_default, length-append, length-map, length-replicate}
+use Rattle.std.proofs.lemmas.List.{get_or-append-add, get_or-map, get_or_append_left, get_or_default, length-append, length-map}
 use Rattle.std.proofs.lemmas.List.Elements.{All-cons, All-nil, All-replicate}
 use Rattle.cavlc.proofs.SizeLemmas.{coefficients_small}
 use Rattle.cavlc.proofs.TurnLemmas.{is_at}
-use Rattle.cavlc.specs.Blocks.{HasSpelling, block_bits}
-use Rattle.cavlc.specs.Turns.{AreInTurn, state_behind}
+use Rattle.cavlc.specs.Blocks.{HasSpelling}
+use Rattle.cavlc.specs.Turns.{state_behind}
 use Rattle.cb_types.specs.declared.macroblock.Macroblock.{Macroblock}
 use Rattle.cb_types.specs.declared.macroblock.MbKind.{MbKind}
 use Rattle.finite.specs.Decided.{Decided}

@@ -1,8 +1,7 @@
 -- The macroblocks that have a spelling are few.
-use Rattle.std.proofs.Common.{◌≡◌, ℕ, ◌<◌, ◌≤◌, ◌⊎◌, inl, inr, Bool, true, false, List, [], ◌∷◌, ◌++◌, length, map, replicate, refl, sym, subst, arith, ℤ, pos, negsuc, unsigned_abs, ◌≤ℤ◌}
+use Rattle.std.proofs.Common.{◌≡◌, ◌⊎◌, inl, inr, true, false, List, [], ◌∷◌, ◌++◌, length, map, replicate, refl, subst, ℤ, pos, negsuc, ◌≤ℤ◌}
 use Rattle.std.specs.List.{All, flat_map}
-use Rattle.std.proofs.lemmas.Int.{ints}
-use Rattle.std.proofs.lemmas.List.Elements.{All-head, All-weaker}
+use Rattle.std.proofs.lemmas.List.Elements.{All-head}
 use Rattle.cb_types.specs.declared.macroblock.ChromaLevels.{ChromaLevels}
 use Rattle.cb_types.specs.declared.macroblock.DcLevels.{DcLevels}
 use Rattle.cb_types.specs.declared.macroblock.Levels.{Levels}
@@ -11,15 +10,15 @@ use Rattle.cb_types.specs.declared.macroblock.MbKind.{MbKind}
 use Rattle.finite.specs.Decided.{Decided}
 use Rattle.finite.specs.Finite.{Finite}
 use Rattle.finite.proofs.Deciding.{both, decided_as, either, implies, never}
-use Rattle.finite.proofs.Equal.{equal_booleans, equal_integers, equal_numbers, integer_at_most}
-use Rattle.finite.proofs.Lists.{each_of, lists_of}
+use Rattle.finite.proofs.Equal.{equal_booleans, equal_integers, integer_at_most}
+use Rattle.finite.proofs.Lists.{lists_of}
 use Rattle.finite.proofs.Numbers.{integers_between}
-use Rattle.finite.proofs.Sets.{joined, narrower, onto, pairs, single}
+use Rattle.finite.proofs.Sets.{joined, onto, pairs, single}
 use Rattle.mb_syntax.specs.Counts.{block_of, blocks_of, chroma_blocks, dc_block}
 use Rattle.mb_syntax.specs.Kinds.{has_qp_delta}
 use Rattle.mb_syntax.specs.MacroblockLayer.{IsCoded, IsQpDelta}
 use Rattle.mb_syntax.specs.Prediction.{IsKind}
-use Rattle.mb_syntax.specs.SliceData.{HasSpelling, IsSkipped, skipped}
+use Rattle.mb_syntax.specs.SliceData.{HasSpelling, skipped}
 use Rattle.mb_syntax.specs.declared.slice.Slice.{Slice}
 use Rattle.slice_readings.proofs.BlockChoices.{All-back, All-flat, All-front, All-mapped, IsBlock, IsLevel, block_parts, blocks_are, blocks_decided, blocks_few, levels_few}
 use Rattle.slice_readings.proofs.KindChoices.{kinds_few}

@@ -1,13 +1,12 @@
 -- What a payload can be read as is few.
-use Rattle.std.proofs.Common.{◌≡◌, ◌≢◌, ℕ, ◌+◌, ◌*◌, ◌<◌, ◌≤◌, ◌⊎◌, inl, inr, Bool, true, false, List, Option, Some, None, length, refl, sym, ap, ap₂, subst, ◌∙◌, arith}
-use Rattle.std.specs.Prelude.{◌↔◌, IsFalse, IsTrue, slice_index, unwrap_or}
+use Rattle.std.proofs.Common.{◌≡◌, ℕ, ◌+◌, ◌*◌, ◌<◌, inl, inr, Bool, true, false, List, Option, Some, None, length, refl, sym, ap, ap₂, subst}
+use Rattle.std.specs.Prelude.{slice_index, unwrap_or}
 use Rattle.cb_types.specs.Slices.{is_idr, is_p}
 use Rattle.cb_types.specs.declared.header.Header.{Header}
 use Rattle.cb_types.specs.declared.header.UnitHead.{UnitHead}
 use Rattle.cb_types.specs.declared.macroblock.Macroblock.{Macroblock}
 use Rattle.cb_types.specs.declared.picture_info.PictureInfo.{PictureInfo}
 use Rattle.cb_types.specs.declared.size.SizeMbs.{SizeMbs}
-use Rattle.decoder_render.specs.Parsed.{CanParse}
 use Rattle.decoder_render.specs.Slices.{IsFirstByte, SpellsSlice, bits_behind}
 use Rattle.element_tables.specs.Syntax.{Takes}
 use Rattle.finite.specs.Decided.{Decided}

@@ -1,10 +1,9 @@
 -- What bits spell by a table of elements is few.
-use Rattle.std.proofs.Common.{◌≡◌, ℕ, suc, ◌+◌, ◌-◌, ◌<◌, ◌≤◌, ◌^◌, Bool, List, [], ◌++◌, Option, None, refl, sym, ap, ap₂, subst, ◌∙◌, arith, append_assoc, ℤ, unsigned_abs}
+use Rattle.std.proofs.Common.{◌≡◌, ◌-◌, ◌^◌, Bool, List, [], ◌++◌, None, refl, sym, ap, ap₂, ◌∙◌, append_assoc}
 use Rattle.bit_io.specs.Bits as bits
 use Rattle.bit_io.specs.Codewords as codewords
 use Rattle.bit_io.specs.Codewords.{IsU, IsUe, IsSe}
 use Rattle.element_tables.specs.Syntax.{BeginsWith, Made, Rule, Se, Spells, Syntax, Takes, U, Ue}
-use Rattle.finite.specs.Decided.{Decided}
 use Rattle.finite.specs.Finite.{Finite}
 use Rattle.finite.proofs.Deciding.{both, decided_as}
 use Rattle.finite.proofs.Equal.{equal_booleans, is_none}

@@ -92,11 +92,13 @@ formed {A} {B} R f {Other} finite others = record {
       (either (finite.find (λ x. Q (f x)) (λ x r. each (f x) (r, inl (x, refl)))) (others.find Q (λ y h. each y (h.0, inr h.1))));
 }
   where
-    together : (Q : B → Type 0) → ((x : A) × R (f x) × Q (f x)) ⊎ ((y : B) × (R y × Other y) × Q y) → (y : B) × (R y × (IsOf f y ⊎ Other y)) × Q y
+    together : (Q : B → Type 0) → ((x : A) × R (f x) × Q (f x)) ⊎ ((y : B) × (R y × Other y) × Q y)
+        → (y : B) × (R y × (IsOf f y ⊎ Other y)) × Q y
     together Q (inl found) = (f found.0, (found.1, inl (found.0, refl)), found.2)
     together Q (inr found) = (found.0, (found.1.0, inr found.1.1), found.2)
 
-    parted : (Q : B → Type 0) (y : B) → R y → IsOf f y ⊎ Other y → Q y → ((x : A) × R (f x) × Q (f x)) ⊎ ((y : B) × (R y × Other y) × Q y)
+    parted : (Q : B → Type 0) (y : B) → R y → IsOf f y ⊎ Other y → Q y
+        → ((x : A) × R (f x) × Q (f x)) ⊎ ((y : B) × (R y × Other y) × Q y)
     parted Q y r (inl from) q = inl (from.0, subst R (sym from.1) r, subst Q (sym from.1) q)
     parted Q y r (inr other) q = inr (y, (r, other), q)
 

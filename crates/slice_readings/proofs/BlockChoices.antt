@@ -1,12 +1,12 @@
 -- The blocks that have a spelling are few.
-use Rattle.std.proofs.Common.{◌≡◌, ℕ, zero, suc, ◌+◌, ◌<◌, ◌≤◌, Bool, true, false, List, [], ◌∷◌, ◌++◌, length, map, get_or, take, replicate, refl, sym, subst, arith, ℤ, pos, unsigned_abs}
+use Rattle.std.proofs.Common.{◌≡◌, ℕ, ◌+◌, ◌<◌, Bool, true, false, List, [], ◌∷◌, ◌++◌, length, map, get_or, take, replicate, refl, sym, subst, arith, ℤ, pos, unsigned_abs}
 use Rattle.std.specs.List.{All, flat_map}
-use Rattle.std.proofs.lemmas.List.{get_or-append-add, get_or-map, get_or_append_left, get_or_default, length-append, length-map, length-replicate}
+use Rattle.std.proofs.lemmas.List.{get_or-append-add, get_or-map, get_or_append_left, get_or_default, length-append, length-map}
 use Rattle.std.proofs.lemmas.List.Elements.{All-cons, All-nil, All-replicate}
 use Rattle.cavlc.proofs.SizeLemmas.{coefficients_small}
 use Rattle.cavlc.proofs.TurnLemmas.{is_at}
-use Rattle.cavlc.specs.Blocks.{HasSpelling, block_bits}
-use Rattle.cavlc.specs.Turns.{AreInTurn, state_behind}
+use Rattle.cavlc.specs.Blocks.{HasSpelling}
+use Rattle.cavlc.specs.Turns.{state_behind}
 use Rattle.cb_types.specs.declared.macroblock.Macroblock.{Macroblock}
 use Rattle.cb_types.specs.declared.macroblock.MbKind.{MbKind}
 use Rattle.finite.specs.Decided.{Decided}
@@ -59,17 +59,22 @@ spelled_blocks_few nc most = narrower (HasSpelling nc most) blocks_few (λ block
 
 -- ---- the blocks of a macroblock
 
-one_block : (coded : Bool) (nc : ℤ) (most : ℕ) (block : List ℤ) → (coded ≡ true → HasSpelling nc most block) → (coded ≡ false → block ≡ replicate 16 (pos 0)) → IsBlock block
+one_block : (coded : Bool) (nc : ℤ) (most : ℕ) (block : List ℤ) → (coded ≡ true → HasSpelling nc most block)
+    → (coded ≡ false → block ≡ replicate 16 (pos 0)) → IsBlock block
 one_block true nc most block h k = spelled_block nc most block (h refl)
 one_block false nc most block h k = subst IsBlock (sym (k refl)) zero_block
 
-pub blocks_are : (slice : Slice) (before : List Macroblock) (kind : MbKind) (blocks : List (List ℤ)) → AreBlocks slice before kind blocks → All IsBlock blocks
+pub blocks_are : (slice : Slice) (before : List Macroblock) (kind : MbKind) (blocks : List (List ℤ)) → AreBlocks slice before kind blocks
+    → All IsBlock blocks
 blocks_are slice before kind blocks h k d below =
     let behind = state_behind block_behind [] (take k blocks) in
-    let next : IsNextBlock slice before kind behind (get_or blocks k d) = is_at (IsNextBlock slice before kind) (next_block_bits slice before kind) block_behind [] blocks k d below h in
-    one_block (is_coded kind (length behind)) (nc_at slice before behind (length behind)) (most_levels kind (length behind)) (get_or blocks k d) next.coded next.not_coded
+    let next : IsNextBlock slice before kind behind (get_or blocks k d) =
+    is_at (IsNextBlock slice before kind) (next_block_bits slice before kind) block_behind [] blocks k d below h in
+    one_block (is_coded kind (length behind)) (nc_at slice before behind (length behind)) (most_levels kind (length behind)) (get_or blocks k d)
+    next.coded next.not_coded
 
-next_decided : (slice : Slice) (before : List Macroblock) (kind : MbKind) (blocks : List (List ℤ)) (block : List ℤ) → Decided (IsNextBlock slice before kind blocks block)
+next_decided : (slice : Slice) (before : List Macroblock) (kind : MbKind) (blocks : List (List ℤ)) (block : List ℤ)
+    → Decided (IsNextBlock slice before kind blocks block)
 next_decided slice before kind blocks block =
     let place = length blocks in
     decided_as (λ h. record { coded = h.0; not_coded = h.1 }) (λ h. (h.coded, h.not_coded))

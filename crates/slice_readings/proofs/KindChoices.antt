@@ -1,5 +1,5 @@
 -- The kinds of macroblocks that have a spelling are few.
-use Rattle.std.proofs.Common.{◌≡◌, ℕ, ◌+◌, ◌*◌, ◌/◌, ◌%◌, ◌^◌, ◌<◌, ◌≤◌, ◌⊎◌, inl, inr, Bool, true, List, [], ◌∷◌, ◌++◌, length, take, drop, refl, sym, ap, subst, arith, ℤ, pos, unsigned_abs}
+use Rattle.std.proofs.Common.{◌≡◌, ℕ, ◌/◌, ◌%◌, ◌^◌, ◌<◌, ◌≤◌, ◌⊎◌, inl, inr, true, List, ◌++◌, length, take, drop, refl, sym, subst, arith, ℤ, pos, unsigned_abs}
 use Rattle.std.specs.List.{All}
 use Rattle.std.proofs.lemmas.List.{take-append-drop}
 use Rattle.std.proofs.lemmas.List.Elements.{All-append, All-same, All-weaker}
@@ -19,7 +19,7 @@ use Rattle.finite.proofs.Lists.{each_of, lists_of}
 use Rattle.finite.proofs.Numbers.{integers_below, numbers_below, numbers_up_to}
 use Rattle.finite.proofs.Sets.{formed, formless, narrower, onto, pairs, same}
 use Rattle.mb_syntax.specs.Kinds.{sub_parts}
-use Rattle.mb_syntax.specs.Prediction.{AreModes, AreParts, AreSamples, IsFirstSub, IsIntra16, IsKind, IsMode, IsPart, IsReference, IsSub, IsVector, IsZeroVector}
+use Rattle.mb_syntax.specs.Prediction.{AreModes, AreParts, IsFirstSub, IsIntra16, IsKind, IsMode, IsPart, IsReference, IsSub, IsVector, IsZeroVector}
 use Rattle.mb_syntax.specs.declared.slice.Slice.{Slice}
 
 -- ---- what kinds are made of
@@ -88,7 +88,8 @@ subs_few slice = narrower (IsSub slice) (near_subs_few slice)
     (λ sub near. decided_as
     (λ h. record { kind = near.kind; reference = near.reference; size = near.size; spelled = h.0; others = h.1 })
     (λ h. (h.spelled, h.others))
-    (both (each_of IsVector (take (sub_parts sub.kind) sub.deltas) vector_decided) (λ h. each_of IsZeroVector (drop (sub_parts sub.kind) sub.deltas) zero_decided)))
+    (both (each_of IsVector (take (sub_parts sub.kind) sub.deltas) vector_decided)
+    (λ h. each_of IsZeroVector (drop (sub_parts sub.kind) sub.deltas) zero_decided)))
     (λ sub h. record { kind = h.kind; reference = h.reference; size = h.size; vectors = all_vectors (sub_parts sub.kind) sub.deltas h.spelled h.others })
 
 first_subs_few : (slice : Slice) → Finite (IsFirstSub slice)

@@ -1,8 +1,7 @@
 -- The macroblocks that have a spelling are few.
-use Rattle.std.proofs.Common.{◌≡◌, ℕ, ◌<◌, ◌≤◌, ◌⊎◌, inl, inr, Bool, true, false, List, [], ◌∷◌, ◌++◌, length, map, replicate, refl, sym, subst, arith, ℤ, pos, negsuc, unsigned_abs, ◌≤ℤ◌}
+use Rattle.std.proofs.Common.{◌≡◌, ◌⊎◌, inl, inr, true, false, List, [], ◌∷◌, ◌++◌, length, map, replicate, refl, subst, ℤ, pos, negsuc, ◌≤ℤ◌}
 use Rattle.std.specs.List.{All, flat_map}
-use Rattle.std.proofs.lemmas.Int.{ints}
-use Rattle.std.proofs.lemmas.List.Elements.{All-head, All-weaker}
+use Rattle.std.proofs.lemmas.List.Elements.{All-head}
 use Rattle.cb_types.specs.declared.macroblock.ChromaLevels.{ChromaLevels}
 use Rattle.cb_types.specs.declared.macroblock.DcLevels.{DcLevels}
 use Rattle.cb_types.specs.declared.macroblock.Levels.{Levels}
@@ -11,15 +10,15 @@ use Rattle.cb_types.specs.declared.macroblock.MbKind.{MbKind}
 use Rattle.finite.specs.Decided.{Decided}
 use Rattle.finite.specs.Finite.{Finite}
 use Rattle.finite.proofs.Deciding.{both, decided_as, either, implies, never}
-use Rattle.finite.proofs.Equal.{equal_booleans, equal_integers, equal_numbers, integer_at_most}
-use Rattle.finite.proofs.Lists.{each_of, lists_of}
+use Rattle.finite.proofs.Equal.{equal_booleans, equal_integers, integer_at_most}
+use Rattle.finite.proofs.Lists.{lists_of}
 use Rattle.finite.proofs.Numbers.{integers_between}
-use Rattle.finite.proofs.Sets.{joined, narrower, onto, pairs, single}
+use Rattle.finite.proofs.Sets.{joined, onto, pairs, single}
 use Rattle.mb_syntax.specs.Counts.{block_of, blocks_of, chroma_blocks, dc_block}
 use Rattle.mb_syntax.specs.Kinds.{has_qp_delta}
 use Rattle.mb_syntax.specs.MacroblockLayer.{IsCoded, IsQpDelta}
 use Rattle.mb_syntax.specs.Prediction.{IsKind}
-use Rattle.mb_syntax.specs.SliceData.{HasSpelling, IsSkipped, skipped}
+use Rattle.mb_syntax.specs.SliceData.{HasSpelling, skipped}
 use Rattle.mb_syntax.specs.declared.slice.Slice.{Slice}
 use Rattle.slice_readings.proofs.BlockChoices.{All-back, All-flat, All-front, All-mapped, IsBlock, IsLevel, block_parts, blocks_are, blocks_decided, blocks_few, levels_few}
 use Rattle.slice_readings.proofs.KindChoices.{kinds_few}
@@ -37,7 +36,8 @@ IsPlane plane = (length plane.0 ≡ 4) × All IsLevels plane.0
 
 levels_arrays : Finite IsLevels
 unfolding IsLevels
-levels_arrays = onto IsLevels (λ (block : List ℤ). let levels : Levels = record { 0 = block } in levels) blocks_few (λ block h. h) (λ levels h. (levels.0, h, refl))
+levels_arrays = onto IsLevels (λ (block : List ℤ). let levels : Levels = record { 0 = block } in levels) blocks_few
+    (λ block h. h) (λ levels h. (levels.0, h, refl))
 
 dc_arrays : Finite IsDc
 unfolding IsDc
@@ -171,7 +171,8 @@ spelled_few slice before mb (inr h) = inr (coded_near slice before mb h)
 not_coded : (slice : Slice) (before : List Macroblock) (mb : Macroblock) → mb ≡ skipped → IsCoded slice before mb → ⊥
 not_coded slice before mb e h = subst (λ (mb : Macroblock). IsKind slice mb.kind) e h.kind
 
-spelling_of_few : (slice : Slice) (before : List Macroblock) (mb : Macroblock) → (mb ≡ skipped) ⊎ IsNear slice mb → Decided (HasSpelling slice before mb)
+spelling_of_few : (slice : Slice) (before : List Macroblock) (mb : Macroblock) → (mb ≡ skipped) ⊎ IsNear slice mb
+    → Decided (HasSpelling slice before mb)
 spelling_of_few slice before mb (inl e) = either
     (decided_as (λ p. record { in_p = p; same = e }) (λ h. h.in_p) (equal_booleans slice.is_p true))
     (never (not_coded slice before mb e))

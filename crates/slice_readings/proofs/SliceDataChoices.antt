@@ -1,5 +1,5 @@
 -- The lists of macroblocks that the bits behind a slice header spell are few.
-use Rattle.std.proofs.Common.{◌≡◌, ◌≢◌, ℕ, ◌+◌, ◌≤◌, ◌⊎◌, inl, inr, Bool, true, List, [], ◌∷◌, length, refl, arith}
+use Rattle.std.proofs.Common.{◌≡◌, ℕ, ◌+◌, ◌≤◌, Bool, true, List, [], ◌∷◌, length, arith}
 use Rattle.std.specs.List.{All}
 use Rattle.std.proofs.lemmas.List.Elements.{All-cons, All-nil}
 use Rattle.bit_io.specs.Codewords.{ue}
@@ -30,7 +30,8 @@ run_decided slice at run =
     (λ h. implies (negated (equal_bits run [])) (λ h. both (equal_booleans slice.is_p true) (λ h. equal_numbers at.run 0))))
 
 runs_few : (slice : Slice) (at : SoFar) → Finite (IsOptionalRun slice at)
-runs_few slice at = narrower (IsOptionalRun slice at) (joined (single {A = List Bool} []) (single (ue 0))) (λ run h. run_decided slice at run) (λ run h. h.either)
+runs_few slice at = narrower (IsOptionalRun slice at) (joined (single {A = List Bool} []) (single (ue 0)))
+    (λ run h. run_decided slice at run) (λ run h. h.either)
 
 -- ---- macroblocks from there on
 

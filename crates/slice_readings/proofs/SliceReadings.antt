@@ -1,13 +1,12 @@
 -- What a payload can be read as is few.
-use Rattle.std.proofs.Common.{◌≡◌, ◌≢◌, ℕ, ◌+◌, ◌*◌, ◌<◌, ◌≤◌, ◌⊎◌, inl, inr, Bool, true, false, List, Option, Some, None, length, refl, sym, ap, ap₂, subst, ◌∙◌, arith}
-use Rattle.std.specs.Prelude.{◌↔◌, IsFalse, IsTrue, slice_index, unwrap_or}
+use Rattle.std.proofs.Common.{◌≡◌, ℕ, ◌+◌, ◌*◌, ◌<◌, inl, inr, Bool, true, false, List, Option, Some, None, length, refl, sym, ap, ap₂, subst}
+use Rattle.std.specs.Prelude.{slice_index, unwrap_or}
 use Rattle.cb_types.specs.Slices.{is_idr, is_p}
 use Rattle.cb_types.specs.declared.header.Header.{Header}
 use Rattle.cb_types.specs.declared.header.UnitHead.{UnitHead}
 use Rattle.cb_types.specs.declared.macroblock.Macroblock.{Macroblock}
 use Rattle.cb_types.specs.declared.picture_info.PictureInfo.{PictureInfo}
 use Rattle.cb_types.specs.declared.size.SizeMbs.{SizeMbs}
-use Rattle.decoder_render.specs.Parsed.{CanParse}
 use Rattle.decoder_render.specs.Slices.{IsFirstByte, SpellsSlice, bits_behind}
 use Rattle.element_tables.specs.Syntax.{Takes}
 use Rattle.finite.specs.Decided.{Decided}
@@ -75,13 +74,15 @@ readings_few info size payload =
 abbrev slice_read : Reading → Header × List Macroblock
 slice_read t = (t.1.0.0, t.1.1)
 
-pub slices_few : (info : PictureInfo) (size : SizeMbs) (payload : List ℕ) → Finite (λ (s : Header × List Macroblock). SpellsSlice info size payload s.0 s.1)
+pub slices_few : (info : PictureInfo) (size : SizeMbs) (payload : List ℕ)
+    → Finite (λ (s : Header × List Macroblock). SpellsSlice info size payload s.0 s.1)
 unfolding Reads
 slices_few info size payload = onto (λ (s : Header × List Macroblock). SpellsSlice info size payload s.0 s.1) slice_read (readings_few info size payload)
     (λ t h. spells t.0 t.1.0.0 t.1.0.1 t.1.1 h.0 h.1.0 h.1.1)
     (λ s h. ((s.0.head, ((s.0, h.rest), s.1)), (h.first, (record { takes = h.elements; same_head = refl }, h.macroblocks)), refl))
   where
-    spells : (head : UnitHead) (header : Header) (rest : List Bool) (mbs : List Macroblock) → IsFirstByte payload head → IsRead info payload head (header, rest)
+    spells : (head : UnitHead) (header : Header) (rest : List Bool) (mbs : List Macroblock) → IsFirstByte payload head
+        → IsRead info payload head (header, rest)
         → AreSliceData info header size rest mbs → SpellsSlice info size payload header mbs
     spells head header rest mbs first read macroblocks = record {
       first = subst (IsFirstByte payload) (sym read.same_head) first;
@@ -92,7 +93,8 @@ slices_few info size payload = onto (λ (s : Header × List Macroblock). SpellsS
 
 pub spells_decided : (info : PictureInfo) (size : SizeMbs) (payload : List ℕ) → Decided (SpellsSome info size payload)
 spells_decided info size payload =
-    decided_as (λ found. (found.0.0, found.0.1, found.1)) (λ found. ((found.0, found.1), found.2, tt)) ((slices_few info size payload).find (λ s. Unit {0}) (λ s h. always tt))
+    decided_as (λ found. (found.0.0, found.0.1, found.1)) (λ found. ((found.0, found.1), found.2, tt))
+    ((slices_few info size payload).find (λ s. Unit {0}) (λ s h. always tt))
 
 -- ---- a slice that its picture can have
 
@@ -104,7 +106,15 @@ idr_decided header =
 accepted_decided : (info : PictureInfo) (first : Header) (covered : ℕ) (header : Header) → Decided (IsAcceptedSlice info first covered header)
 accepted_decided info first covered header =
     decided_as
-    (λ h. record { frame_num = h.0; reference = (h.1.0, h.1.1.0); unit_type = h.1.1.1.0; idr = h.1.1.1.1.0; alike = h.1.1.1.1.1.0; pps = h.1.1.1.1.1.1.0; first_mb = h.1.1.1.1.1.1.1 })
+    (λ h. record {
+      frame_num = h.0;
+      reference = (h.1.0, h.1.1.0);
+      unit_type = h.1.1.1.0;
+      idr = h.1.1.1.1.0;
+      alike = h.1.1.1.1.1.0;
+      pps = h.1.1.1.1.1.1.0;
+      first_mb = h.1.1.1.1.1.1.1;
+    })
     (λ h. (h.frame_num, (h.reference.0, (h.reference.1, (h.unit_type, (h.idr, (h.alike, (h.pps, h.first_mb))))))))
     (both (equal_numbers header.frame_num info.frame_num)
     (λ h. both (implies (equal_booleans info.is_reference true) (λ h. negated (equal_numbers header.head.ref_idc 0)))
@@ -118,7 +128,8 @@ listed_decided : {A : Type 0} (found : Option A) → Decided ((a : A) × (found 
 listed_decided None = inr (λ h. let none : None ≡ Some h.0 = h.1 in absurd cc)
 listed_decided (Some a) = inl (a, refl)
 
-pub parses_decided : (info : PictureInfo) (size : SizeMbs) (first : Option Header) (covered : ℕ) (payload : List ℕ) → Decided (ParsesAsSome info size first covered payload)
+pub parses_decided : (info : PictureInfo) (size : SizeMbs) (first : Option Header) (covered : ℕ) (payload : List ℕ)
+    → Decided (ParsesAsSome info size first covered payload)
 parses_decided info size first covered payload =
     decided_as
     (λ found. (found.0.0, found.2.1.0, found.0.1, record { spelled = found.1; fits = found.2.0; listed = found.2.1.1 }))

@@ -1,5 +1,5 @@
 -- Whether a block has a spelling.
-use Rattle.std.proofs.Common.{◌≡◌, ◌≢◌, ℕ, zero, suc, ◌+◌, ◌-◌, ◌<◌, ◌≤◌, min, inl, inr, List, [], ◌∷◌, length, get_or, drop, ◌^◌, refl, arith, ℤ, pos}
+use Rattle.std.proofs.Common.{◌≡◌, ◌≢◌, ℕ, ◌+◌, ◌-◌, ◌<◌, ◌≤◌, min, inl, inr, List, [], ◌∷◌, length, get_or, drop, ◌^◌, ℤ, pos}
 use Rattle.std.specs.List.{All}
 use Rattle.std.proofs.Math.ListN.{get_or-eq_default}
 use Rattle.std.proofs.lemmas.Bool.{cases_lt}
@@ -55,10 +55,12 @@ zeros_decided : (most total zeros : ℕ) → Decided (HasZerosCode most total ze
 zeros_decided most total zeros =
     decided_as (λ h. record { chroma_dc = h.0; others = h.1 }) (λ h. (h.chroma_dc, h.others))
     (both (implies (at_most 1 total) (λ h. implies (below total most) (λ h. implies (equal_numbers most 4) (λ h. dc_zeros_decided total zeros))))
-    (λ h. implies (at_most 1 total) (λ h. implies (below total most) (λ h. implies (negated (equal_numbers most 4)) (λ h. total_zeros_decided total zeros)))))
+    (λ h. implies (at_most 1 total) (λ h. implies (below total most)
+    (λ h. implies (negated (equal_numbers most 4)) (λ h. total_zeros_decided total zeros)))))
 
 run_decided : (left run : ℕ) → Decided (IsRun left run)
-run_decided left run = decided_as (λ h. record { some = h.0; most = h.1 }) (λ h. (h.some, h.most)) (both (at_most 1 left) (λ h. at_most run (longest_run left)))
+run_decided left run = decided_as (λ h. record { some = h.0; most = h.1 }) (λ h. (h.some, h.most))
+    (both (at_most 1 left) (λ h. at_most run (longest_run left)))
 
 run_code_decided : (left run : ℕ) → Decided (HasRunCode left run)
 run_code_decided left run =

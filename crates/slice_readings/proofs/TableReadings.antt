@@ -1,10 +1,9 @@
 -- What bits spell by a table of elements is few.
-use Rattle.std.proofs.Common.{◌≡◌, ℕ, suc, ◌+◌, ◌-◌, ◌<◌, ◌≤◌, ◌^◌, Bool, List, [], ◌++◌, Option, None, refl, sym, ap, ap₂, subst, ◌∙◌, arith, append_assoc, ℤ, unsigned_abs}
+use Rattle.std.proofs.Common.{◌≡◌, ◌-◌, ◌^◌, Bool, List, [], ◌++◌, None, refl, sym, ap, ap₂, ◌∙◌, append_assoc}
 use Rattle.bit_io.specs.Bits as bits
 use Rattle.bit_io.specs.Codewords as codewords
 use Rattle.bit_io.specs.Codewords.{IsU, IsUe, IsSe}
 use Rattle.element_tables.specs.Syntax.{BeginsWith, Made, Rule, Se, Spells, Syntax, Takes, U, Ue}
-use Rattle.finite.specs.Decided.{Decided}
 use Rattle.finite.specs.Finite.{Finite}
 use Rattle.finite.proofs.Deciding.{both, decided_as}
 use Rattle.finite.proofs.Equal.{equal_booleans, is_none}
@@ -24,7 +23,8 @@ begins_few {A} {V} IsValue code rule more whole values behind = record {
   find = λ Q each. decided_as
       (λ found. (found.2.1.2.0, (found.0, found.2.1.0, found.1, found.2.0, found.2.1.1, found.2.1.2.1), found.2.1.2.2))
       (λ found. (found.1.0, found.1.2, (found.1.3, (found.1.1, found.1.4, (found.0, found.1.5, found.2)))))
-      (values.find (λ v. (rule v ≡ None) × ((rest : List Bool) × (whole ≡ code v ++ rest) × ((p : A × List Bool) × Takes (more v) rest p.0 p.1 × Q p)))
+      (values.find (λ v. (rule v ≡ None)
+      × ((rest : List Bool) × (whole ≡ code v ++ rest) × ((p : A × List Bool) × Takes (more v) rest p.0 p.1 × Q p)))
       (λ v is. both (is_none (rule v)) (λ accepted. begins equal_booleans (code v) whole _
       (λ rest e. (behind v rest).find Q (λ p takes. each p (v, rest, is, accepted, e, takes))))));
 }
@@ -32,11 +32,18 @@ begins_few {A} {V} IsValue code rule more whole values behind = record {
 -- ---- the elements of a table
 
 module _ {A V : Type 0} (IsValue : V → Type 0) (code : V → List Bool) (rule : Rule V) (more : V → Syntax A) where
-  parted : (front rest : List Bool) (a : A) (whole : List Bool) → BeginsWith IsValue code rule (λ v rest. Spells (more v) rest a) front → whole ≡ front ++ rest
+  parted : (front rest : List Bool) (a : A) (whole : List Bool) → BeginsWith IsValue code rule (λ v rest. Spells (more v) rest a) front
+      → whole ≡ front ++ rest
       → BeginsBefore IsValue code rule more whole (a, rest)
   unfolding BeginsBefore
-  parted front rest a whole (v, left, is, accepted, e, spelled) parts =
-      (v, left ++ rest, is, accepted, parts ∙ ap (λ (x : List Bool). x ++ rest) e ∙ append_assoc (code v) left rest, record { front = left; spelled = spelled; parts = refl })
+  parted front rest a whole (v, left, is, accepted, e, spelled) parts = (
+    v,
+    left ++ rest,
+    is,
+    accepted,
+    parts ∙ ap (λ (x : List Bool). x ++ rest) e ∙ append_assoc (code v) left rest,
+    record { front = left; spelled = spelled; parts = refl },
+  )
 
   Joined : List Bool → A → List Bool → Type 0
   Joined whole a rest = (front : List Bool) × BeginsWith IsValue code rule (λ v rest. Spells (more v) rest a) front × (whole ≡ front ++ rest)
@@ -50,7 +57,8 @@ module _ {A V : Type 0} (IsValue : V → Type 0) (code : V → List Bool) (rule 
   )
 
 made_few : {A : Type 0} (a : A) (whole : List Bool) → Finite (λ (p : A × List Bool). Takes (Made a) whole p.0 p.1)
-made_few {A} a whole = same (λ (p : A × List Bool). Takes (Made a) whole p.0 p.1) (single {A = A × List Bool} (a, whole)) (λ p e. made p e) (λ p h. is_made p h)
+made_few {A} a whole = same (λ (p : A × List Bool). Takes (Made a) whole p.0 p.1) (single {A = A × List Bool} (a, whole))
+    (λ p e. made p e) (λ p h. is_made p h)
   where
     made : (p : A × List Bool) → p ≡ (a, whole) → Takes (Made a) whole p.0 p.1
     made p e = record { front = []; spelled = (refl, ap (λ (p : A × List Bool). p.0) (sym e)); parts = ap (λ (p : A × List Bool). p.1) (sym e) }

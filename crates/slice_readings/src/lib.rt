@@ -3,4 +3,4 @@
 
 mod laws;
 
-pub use laws::readings_are_decided;
+pub use laws::{parts_are_decided, readings_are_decided};

@@ -52,6 +52,6 @@ comes_to g units accepted limits reads = elim (accepted_or_fault g accepted limi
   | inr fault ↦ (outcome.Bitstream fault.0, shown_picture [] g.size limits, fault.1)
 ]
 
--- and it is
+-- That is decided of each payload, so each list of units has an outcome.
 pub outcomes_exist : OutcomesExist
 outcomes_exist g units accepted limits = comes_to g units accepted limits (λ first covered payload. parses_decided g.info g.size first covered payload)

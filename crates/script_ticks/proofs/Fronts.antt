@@ -1,10 +1,10 @@
 -- What is longer than any script is decided by its front.
-use Rattle.std.proofs.Common.{◌≡◌, ◌≢◌, ◌⊎◌, inl, inr, ℕ, ◌+◌, ◌<◌, ◌≤◌, true, List, [], ◌∷◌, ◌++◌, length, take, drop, refl, ap, sym, ◌∙◌, subst, arith}
+use Rattle.std.proofs.Common.{◌≡◌, inl, inr, ℕ, ◌+◌, ◌≤◌, true, List, [], ◌∷◌, ◌++◌, length, take, drop, refl, ap, sym, ◌∙◌, subst, arith}
 use Rattle.std.proofs.Math.Seq.{take-append_seam}
 use Rattle.std.proofs.lemmas.Grind.{flat_map-append}
 use Rattle.std.proofs.lemmas.List.{append_assoc, append-nil, length-append, take-append-drop, take-append-le}
 use Rattle.clock_script.specs.Script.{IsInOrder, may_follow}
-use Rattle.clock_script.specs.Texts.{BeginsWith, IsFirstBad, line_feed, line_text, longest_script, text_of}
+use Rattle.clock_script.specs.Texts.{BeginsWith, line_feed, line_text, longest_script, text_of}
 use Rattle.clock_script.specs.declared.script.ScriptLine.{ScriptLine}
 use Rattle.clock_script.proofs.ShortScripts.{scripts_are_short}
 use Rattle.script_ticks.specs.Laws.{FrontsDecide}

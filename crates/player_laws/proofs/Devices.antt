@@ -1,5 +1,5 @@
 -- Calls leave the objects of devices that they aren't about.
-use Rattle.std.proofs.Common.{◌≡◌, ◌≢◌, inl, inr, ℕ, zero, suc, ◌==◌, Bool, true, false, List, [], ◌∷◌, ◌++◌, slice_get, Option, Some, refl, ap, sym, ◌∙◌, subst, arith}
+use Rattle.std.proofs.Common.{◌≡◌, ◌≢◌, inl, inr, ℕ, zero, suc, ◌==◌, ◌||◌, Bool, true, false, List, [], ◌∷◌, ◌++◌, slice_get, Option, Some, refl, ap, sym, ◌∙◌, subst, arith}
 use Rattle.std.proofs.lemmas.Bool.{eq-eqb, eqb-true, false≢true, ne_eqb, or_parts}
 use Rattle.std.specs.List.{list_any}
 use Rattle.std.specs.Option.{option_map_or}
@@ -48,11 +48,11 @@ not_first : (call : Call) (names : List ℕ) (name : ℕ) → list_any (λ own. 
 not_first call [] name none among first = false≢true among
 not_first call (own ∷ names) name none among first =
     let parts = or_parts (is_first own call) (list_any (λ o. is_first o call) names) none in
-    by_test (own == name) refl among parts
+    by_test (own == name) refl among parts.0 (λ k. not_first call names name parts.1 k first)
   where
-    by_test : (b : Bool) → (own == name) ≡ b → (b || is_among names name) ≡ true → (is_first own call ≡ false) × (list_any (λ o. is_first o call) names ≡ false) → ⊥
-    by_test true same k parts = false≢true (sym parts.0 ∙ (ap (λ n. is_first n call) (eqb-true own name same) ∙ first))
-    by_test false same k parts = not_first call names name parts.1 k first
+    by_test : (b : Bool) → (own == name) ≡ b → (b || is_among names name) ≡ true → is_first own call ≡ false → (is_among names name ≡ true → ⊥) → ⊥
+    by_test true same k off rest = false≢true (sym off ∙ (ap (λ n. is_first n call) (eqb-true own name same) ∙ first))
+    by_test false same k off rest = rest k
 
 module _ (names : List ℕ) (final : State) (device : ℕ) (own : (place : ℕ) (a : Object) → slice_get final.objects place ≡ Some a → is_among names a.name ≡ (a.device == device)) where
   -- an entry that names none of the device's objects first is elsewhere

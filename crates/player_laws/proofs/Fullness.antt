@@ -1,5 +1,5 @@
 -- Only a create can find the table full, and it does so only where there is no room.
-use Rattle.std.proofs.Common.{◌≡◌, inl, inr, ◌≤◌, ◌<◌, ℕ, zero, suc, ◌+◌, ◌==◌, nat_lt, Bool, true, false, not, ◌&&◌, ◌||◌, if◌then◌else◌, List, [], ◌∷◌, length, Option, Some, None, Ok, Err, MatchOption, refl, ap, sym, ◌∙◌, subst, arith}
+use Rattle.std.proofs.Common.{◌≡◌, inl, inr, ◌≤◌, ◌<◌, ℕ, zero, suc, ◌+◌, ◌==◌, nat_le, nat_lt, Bool, true, false, not, ◌&&◌, ◌||◌, if◌then◌else◌, List, [], ◌∷◌, length, Option, Some, None, Ok, Err, MatchOption, refl, ap, sym, ◌∙◌, subst, arith}
 use Rattle.std.proofs.lemmas.Bool.{false≢true, ne_eqb}
 use Rattle.std.specs.List.{position}
 use Rattle.std.specs.Option.{ok_or}
@@ -16,13 +16,13 @@ use Rattle.driver_model.specs.Answers.{Goes, Reply, Tells}
 use Rattle.driver_model.specs.Clock as clock
 use Rattle.driver_model.specs.Creates.{Creates, decoder_create, device_create, handles_full, is_full, live_devices, live_objects, live_queues, mixer_create, output_create, queue_create, room, video_create}
 use Rattle.driver_model.specs.Jobs.{reply_of}
-use Rattle.driver_model.specs.Mixes.{Mixes, mix}
-use Rattle.driver_model.specs.Objects.{Content, Decoder, as_device, as_video}
+use Rattle.driver_model.specs.Mixes.{Mixes, Mixing, mix}
+use Rattle.driver_model.specs.Objects.{Content, Decoder, Device, as_decoder, as_device, as_mixer, as_output, as_queue, as_video}
 use Rattle.driver_model.specs.Parts.{is_out_of_handles}
 use Rattle.driver_model.specs.Queues as queues
 use Rattle.driver_model.specs.Refusals.{Looked, ◌>>=◌, ◌>>◌, first_handle, further_handle, in_use, refused_if}
-use Rattle.driver_model.specs.Renders.{Counts, Decodes, Rendering, info_taken, reference, references, render, units_counted}
-use Rattle.driver_model.specs.Sizes.{is_within_limits, size_for, size_of_sides}
+use Rattle.driver_model.specs.Renders.{Counts, Decodes, Rendering, info_taken, is_of_other_size, is_own_reference, reference, references, render, rendering, units_counted}
+use Rattle.driver_model.specs.Sizes.{is_profile, is_rgba_format, is_same_size, is_within_limits, is_ycbcr_format, pixel_bytes, sample_bytes, size_for, size_of_sides}
 use Rattle.driver_model.specs.States.{State, Found, is_preempted, named}
 use Rattle.driver_model.specs.Steps.{Does, Step}
 use Rattle.driver_model.specs.Surfaces as surfaces
@@ -31,7 +31,7 @@ use Rattle.driver_model.specs.declared.calls.Call.{Call}
 use Rattle.driver_model.specs.declared.calls.Call.TheVariants as call
 use Rattle.driver_model.specs.declared.calls.Wish.{Wish}
 use Rattle.driver_model.specs.declared.calls.Wish.TheVariants as wish
-use Rattle.driver_model.specs.declared.numbers.TheConstants.{MANY_NAMES, MAX_DEVICES, MAX_OBJECTS, MAX_QUEUES}
+use Rattle.driver_model.specs.declared.numbers.TheConstants.{CHROMA_420, FRAME, MANY_NAMES, MAX_DEVICES, MAX_OBJECTS, MAX_QUEUES, MAX_REFERENCES}
 use Rattle.driver_model.specs.declared.replies.Answer.TheVariants.{Holds}
 use Rattle.player_laws.specs.Room.{CreatesFindRoom}
 
@@ -46,9 +46,9 @@ next : {A B : Type 0} (m : Looked A) (later : A → Looked B) → Roomy m → ((
 next (Ok found) later is all = all found
 next (Err refusal) later is all = is
 
-then : {B : Type 0} (m : Looked (Unit {0})) (later : Looked B) → Roomy m → Roomy later → Roomy (m >> later)
-then (Ok nothing) later is all = all
-then (Err refusal) later is all = is
+behind : {B : Type 0} (m : Looked (Unit {0})) (later : Looked B) → Roomy m → Roomy later → Roomy (m >> later)
+behind (Ok nothing) later is all = all
+behind (Err refusal) later is all = is
 
 -- another refusal
 abbrev Other : Refusal → Type 0
@@ -78,47 +78,54 @@ sized width height = by_test (is_within_limits (size_of_sides width height)) whe
   by_test true = tt
   by_test false = refl
 
+refuse : {B : Type 0} (test : Bool) (refusal : Refusal) (later : Looked B) → Other refusal → Roomy later → Roomy (refused_if test refusal >> later)
+refuse true refusal later is all = is
+refuse false refusal later is all = all
+
 module _ (s : State) where
   presented : (queue surface : ℕ) → Roomy (queues.presented s queue surface)
-  presented queue surface = next (queues.queue s queue) _ (handle s 0 (named s _ queue)) (λ on. next (further_handle 1 on.device (named s _ surface)) _ (further 1 on.device (named s _ surface)) (λ of. tt))
+  presented queue surface =
+      next (first_handle s (named s as_queue queue)) _ (handle s 0 (named s as_queue queue)) (λ on. next (further_handle 1 on.device (named s as_output surface)) _ (further 1 on.device (named s as_output surface)) (λ of. tt))
 
   shown : (of : Queue ℕ) (earliest : ℕ) → Roomy (answer_to_display of earliest)
   shown of earliest = by_tests (length of.entries == 64) (nat_lt earliest of.promise) where
-    by_tests : (a b : Bool) → Roomy (if a then Err refusal.QueueFull else if b then Err (refusal.EarlierThanPromise of.promise) else Ok tt)
+    by_tests : (a b : Bool) → (let m : Looked (Unit {0}) = if a then Err refusal.QueueFull else if b then Err (refusal.EarlierThanPromise of.promise) else Ok tt in Roomy m)
     by_tests true b = refl
     by_tests false true = refl
     by_tests false false = tt
 
   displayed : (queue surface earliest : ℕ) → Roomy (queues.queue_display s queue surface earliest)
-  displayed queue surface earliest = next (queues.presented s queue surface) _ (presented queue surface) (λ on. then (answer_to_display on.queue.value.queue earliest) _ (shown on.queue.value.queue earliest) tt)
+  displayed queue surface earliest = next (queues.presented s queue surface) _ (presented queue surface) (λ on. behind (answer_to_display on.queue.value.queue earliest) (Ok on) (shown on.queue.value.queue earliest) tt)
 
   video_bits : (surface format count : ℕ) → Roomy (surfaces.video_bits s surface format count)
-  video_bits surface format count = next (surfaces.video s surface) _ (handle s 0 (named s _ surface)) (λ on. then _ _ (guard _ refusal.BadYCbCr refl) (then _ _ (guard _ refusal.BadSize refl) tt))
+  video_bits surface format count =
+      next (first_handle s (named s as_video surface)) _ (handle s 0 (named s as_video surface)) (λ on.
+      refuse (not (is_ycbcr_format format)) refusal.BadYCbCr (refused_if (not (count == sample_bytes on.value.size)) refusal.BadSize >> Ok on) refl (refuse (not (count == sample_bytes on.value.size)) refusal.BadSize (Ok on) refl tt))
 
   output_bits : (surface count : ℕ) → Roomy (surfaces.output_bits s surface count)
-  output_bits surface count = next (surfaces.output s surface) _ (handle s 0 (named s _ surface)) (λ on. then _ _ (guard _ refusal.BadSize refl) tt)
+  output_bits surface count = next (first_handle s (named s as_output surface)) _ (handle s 0 (named s as_output surface)) (λ on. refuse (not (count == pixel_bytes on.value.size)) refusal.BadSize (Ok on) refl tt)
 
   ended : (device : ℕ) → Roomy (clock.device_destroy s device)
   ended device = by_found (named s as_device device) where
-    by_found : (found : Option (Found _)) → Roomy (ok_or found (refusal.InvalidHandle 0))
+    by_found : (found : Option (Found Device)) → Roomy (ok_or found (refusal.InvalidHandle 0))
     by_found None = refl
     by_found (Some found) = tt
 
   advanced : (device time : ℕ) → Roomy (clock.advance s device time)
-  advanced device time = next (clock.device s device) _ (handle s 0 (named s _ device)) (λ on. then _ _ (guard _ (refusal.TimeNotAfter on.value.time) refl) tt)
+  advanced device time = next (first_handle s (named s as_device device)) _ (handle s 0 (named s as_device device)) (λ on. refuse (nat_le time on.value.time) (refusal.TimeNotAfter on.value.time) (Ok on) refl tt)
 
   one_reference : (device arg : ℕ) (entry : Reference) → Roomy (reference s device arg entry)
   one_reference device arg entry = by_test (is_unused entry || is_absent entry) where
     by_test : (b : Bool) → Roomy (if b then Ok None else (further_handle arg device (named s as_video entry.surface) >>= λ on. Ok (Some on)))
     by_test true = tt
-    by_test false = next (further_handle arg device (named s as_video entry.surface)) _ (further arg device (named s as_video entry.surface)) (λ on. tt)
+    by_test false = next (further_handle arg device (named s as_video entry.surface)) (λ on. Ok (Some on)) (further arg device (named s as_video entry.surface)) (λ on. tt)
 
   all_references : (device arg : ℕ) (entries : List Reference) → Roomy (references s device arg entries)
   unfolding references
   all_references device arg [] = tt
   all_references device arg (entry ∷ later) =
       let rest = all_references device (arg + 1) later in
-      next (reference s device arg entry) _ (one_reference device arg entry) (λ found. next (references s device (arg + 1) later) _ rest (λ others. tt))
+      next (reference s device arg entry) (λ found. references s device (arg + 1) later >>= λ others. Ok (found ∷ others)) (one_reference device arg entry) (λ found. next (references s device (arg + 1) later) (λ others. Ok (found ∷ others)) rest (λ others. tt))
 
   taken : (of : Decoder) (info : PictureInfo) → Roomy (info_taken of info)
   taken of info = by_field (position not (accepted_fields of.profile of.max_references info)) where
@@ -126,28 +133,36 @@ module _ (s : State) where
     by_field None = tt
     by_field (Some n) = refl
 
+  looked_at : (decoder target : ℕ) (entries : List Reference) → Roomy (rendering s decoder target entries)
+  looked_at decoder target entries =
+      next (first_handle s (named s as_decoder decoder)) _ (handle s 0 (named s as_decoder decoder)) (λ on. next (further_handle 1 on.device (named s as_video target)) _ (further 1 on.device (named s as_video target)) (λ of.
+      next (references s on.device 2 entries) _ (all_references on.device 2 entries) (λ found. tt)))
+
   rendered : (decoder target : ℕ) (info : PictureInfo) → Roomy (render s decoder target info)
   rendered decoder target info =
-      next _ _
-      (next (first_handle s (named s _ decoder)) _ (handle s 0 (named s _ decoder)) (λ on. next (further_handle 1 on.device (named s _ target)) _ (further 1 on.device (named s _ target)) (λ of.
-      next (references s on.device 2 info.references) _ (all_references on.device 2 info.references) (λ found. tt))))
-      (λ on. then _ _ (guard _ refusal.TargetIsReference refl) (then _ _ (guard _ refusal.BadSize refl) (then _ _ (taken on.decoder.value info) tt)))
+      next (rendering s decoder target info.references) _ (looked_at decoder target info.references) (λ on.
+      let last : Looked Rendering = info_taken on.decoder.value info >> Ok on in
+      refuse (is_own_reference on) refusal.TargetIsReference (refused_if (is_of_other_size on) refusal.BadSize >> last) refl
+      (refuse (is_of_other_size on) refusal.BadSize last refl (behind (info_taken on.decoder.value info) (Ok on) (taken on.decoder.value info) tt)))
 
   mixed : (mixer structure video output : ℕ) → Roomy (mix s mixer structure video output)
   mixed mixer structure video output =
-      next (first_handle s (named s _ mixer)) _ (handle s 0 (named s _ mixer)) (λ on. next (further_handle 1 on.device (named s _ video)) _ (further 1 on.device (named s _ video)) (λ v.
-      next (further_handle 2 on.device (named s _ output)) _ (further 2 on.device (named s _ output)) (λ o. then _ _ (guard _ refusal.BadStructure refl) (then _ _ (guard _ refusal.BadSize refl) tt))))
+      next (first_handle s (named s as_mixer mixer)) _ (handle s 0 (named s as_mixer mixer)) (λ on. next (further_handle 1 on.device (named s as_video video)) _ (further 1 on.device (named s as_video video)) (λ v.
+      next (further_handle 2 on.device (named s as_output output)) _ (further 2 on.device (named s as_output output)) (λ o.
+      let found : Mixing = record { mixer = on; video = v; output = o } in
+      let other : Bool = not (is_same_size on.value.size v.value.size && is_same_size on.value.size o.value.size) in
+      refuse (not (structure == FRAME)) refusal.BadStructure (refused_if other refusal.BadSize >> Ok found) refl (refuse other refusal.BadSize (Ok found) refl tt))))
 
   one_wish : (arg : ℕ) (one : Wish) → Roomy (wish_holds s arg one)
-  one_wish arg (wish.OutputIdle surface) = next (in_use s arg (named s _ surface)) _ (handle s arg (named s _ surface)) (λ on. tt)
-  one_wish arg (wish.VideoHome surface) = next (in_use s arg (named s _ surface)) _ (handle s arg (named s _ surface)) (λ on. tt)
-  one_wish arg (wish.OutputHome surface) = next (in_use s arg (named s _ surface)) _ (handle s arg (named s _ surface)) (λ on. tt)
-  one_wish arg (wish.PromisePast queue time) = next (in_use s arg (named s _ queue)) _ (handle s arg (named s _ queue)) (λ on. tt)
+  one_wish arg (wish.OutputIdle surface) = next (in_use s arg (named s as_output surface)) _ (handle s arg (named s as_output surface)) (λ on. tt)
+  one_wish arg (wish.VideoHome surface) = next (in_use s arg (named s as_video surface)) _ (handle s arg (named s as_video surface)) (λ on. tt)
+  one_wish arg (wish.OutputHome surface) = next (in_use s arg (named s as_output surface)) _ (handle s arg (named s as_output surface)) (λ on. tt)
+  one_wish arg (wish.PromisePast queue time) = next (in_use s arg (named s as_queue queue)) _ (handle s arg (named s as_queue queue)) (λ on. tt)
 
   wishes_from : (arg : ℕ) (wishes : List Wish) → Roomy (first_wish_from s arg wishes)
   unfolding first_wish_from
   wishes_from arg [] = tt
-  wishes_from arg (one ∷ later) = next (wish_holds s arg one) _ (one_wish arg one) (λ holds. by_test holds (wishes_from (arg + 1) later)) where
+  wishes_from arg (one ∷ later) = let rest = wishes_from (arg + 1) later in next (wish_holds s arg one) (λ holds. if holds then Ok (Some arg) else first_wish_from s (arg + 1) later) (one_wish arg one) (λ holds. by_test holds rest) where
     by_test : (b : Bool) → Roomy (first_wish_from s (arg + 1) later) → Roomy (if b then Ok (Some arg) else first_wish_from s (arg + 1) later)
     by_test true rest = tt
     by_test false rest = rest
@@ -164,8 +179,38 @@ module _ (s : State) where
       by_test true e = absurd (false≢true (sym e))
       by_test false e = tt
 
-    on_device : (device : ℕ) (later : Found _ → Looked ℕ) → ((on : Found _) → Roomy (later on)) → Roomy (first_handle s (named s as_device device) >>= later)
+    place : (b : Bool) (n : ℕ) → b ≡ false → Roomy (room s b >> Ok n)
+    place b n is = behind (room s b) (Ok n) (free b is) tt
+
+    on_device : (device : ℕ) (later : Found Device → Looked ℕ) → ((on : Found Device) → Roomy (later on)) → Roomy (first_handle s (named s as_device device) >>= later)
     on_device device later all = next (first_handle s (named s as_device device)) later (handle s 0 (named s as_device device)) all
+
+    of_size : (width height : ℕ) (later : Looked ℕ) → Roomy later → Roomy (size_for width height >>= λ size. later)
+    of_size width height later is = next (size_for width height) (λ size. later) (sized width height) (λ size. is)
+
+    new_device : live_devices s < MAX_DEVICES → Roomy (device_create s)
+    new_device less = place (live_devices s == MAX_DEVICES) (length s.objects) (ne_eqb (live_devices s) MAX_DEVICES (λ same. omega (arith, same, less)))
+
+    new_video : (device chroma width height : ℕ) → Roomy (video_create s device chroma width height)
+    new_video device chroma width height =
+        on_device device _ (λ on. refuse (not (chroma == CHROMA_420)) refusal.BadChroma (size_for width height >>= λ size. room s false >> Ok on.place) refl (of_size width height (room s false >> Ok on.place) (place false on.place refl)))
+
+    new_output : (device format width height : ℕ) → Roomy (output_create s device format width height)
+    new_output device format width height =
+        on_device device _ (λ on. refuse (not (is_rgba_format format)) refusal.BadRgba (size_for width height >>= λ size. room s false >> Ok on.place) refl (of_size width height (room s false >> Ok on.place) (place false on.place refl)))
+
+    new_decoder : (device profile width height max_references : ℕ) → Roomy (decoder_create s device profile width height max_references)
+    new_decoder device profile width height max_references =
+        on_device device _ (λ on.
+        let last : Looked ℕ = refused_if (nat_lt MAX_REFERENCES max_references) (refusal.BadInfo 0) >> (room s false >> Ok on.place) in
+        refuse (not (is_profile profile)) refusal.BadProfile (size_for width height >>= λ size. last) refl
+        (of_size width height last (refuse (nat_lt MAX_REFERENCES max_references) (refusal.BadInfo 0) (room s false >> Ok on.place) refl (place false on.place refl))))
+
+    new_mixer : (device width height : ℕ) → Roomy (mixer_create s device width height)
+    new_mixer device width height = on_device device _ (λ on. of_size width height (room s false >> Ok on.place) (place false on.place refl))
+
+    new_queue : (device : ℕ) → live_queues s < MAX_QUEUES → Roomy (queue_create s device)
+    new_queue device less = on_device device _ (λ on. place (live_queues s == MAX_QUEUES) on.place (ne_eqb (live_queues s) MAX_QUEUES (λ same. omega (arith, same, less))))
 
 -- ---- replies
 
@@ -194,39 +239,33 @@ module _ (old new : State) (caller : List ℕ) (reply : Reply) where
 
   module _ (few : live_objects old < MAX_OBJECTS) (queues_few : live_queues old < MAX_QUEUES) (names_few : length old.objects < MANY_NAMES) where
     does : (asked : Call) → (asked ≡ call.DeviceCreate → live_devices old < MAX_DEVICES) → Does old caller asked reply new → is_out_of_handles reply ≡ false
-    does call.DeviceCreate devices p =
-        let less = devices refl in
-        makes (device_create old) _ (then _ _ (free old few _ (ne_eqb (live_devices old) MAX_DEVICES (λ same. omega (arith, same, less)))) tt) names_few p
+    does call.DeviceCreate devices p = makes (device_create old) _ (new_device old few (devices refl)) names_few p
     does (call.DeviceDestroy device) devices p = goes (clock.device_destroy old device) _ (ended old device) (λ on a. ok _ a.0) p
-    does (call.VideoCreate device chroma width height) devices p =
-        makes (video_create old device chroma width height) _ (on_device old few device _ (λ on. then _ _ (guard _ refusal.BadChroma refl) (next _ _ (sized width height) (λ size. then _ _ (free old few false refl) tt)))) names_few p
-    does (call.VideoParameters surface) devices p = goes (surfaces.video old surface) _ (handle old 0 (named old _ surface)) (λ on a. ok _ a.0) p
+    does (call.VideoCreate device chroma width height) devices p = makes (video_create old device chroma width height) _ (new_video old few device chroma width height) names_few p
+    does (call.VideoParameters surface) devices p = goes (surfaces.video old surface) _ (handle old 0 (named old as_video surface)) (λ on a. ok _ a.0) p
     does (call.VideoGetBits surface format count) devices p = goes (surfaces.video_bits old surface format count) _ (video_bits old surface format count) (λ on a. ok _ a.1.0) p
     does (call.VideoPutBits surface format bytes) devices p = goes (surfaces.video_bits old surface format (length bytes)) _ (video_bits old surface format (length bytes)) (λ on a. ok _ a.1.3.0) p
-    does (call.VideoDestroy surface) devices p = goes (surfaces.video old surface) _ (handle old 0 (named old _ surface)) (λ on a. ok _ a.0) p
-    does (call.OutputCreate device format width height) devices p =
-        makes (output_create old device format width height) _ (on_device old few device _ (λ on. then _ _ (guard _ refusal.BadRgba refl) (next _ _ (sized width height) (λ size. then _ _ (free old few false refl) tt)))) names_few p
+    does (call.VideoDestroy surface) devices p = goes (surfaces.video old surface) _ (handle old 0 (named old as_video surface)) (λ on a. ok _ a.0) p
+    does (call.OutputCreate device format width height) devices p = makes (output_create old device format width height) _ (new_output old few device format width height) names_few p
     does (call.OutputGetBits surface count) devices p = goes (surfaces.output_bits old surface count) _ (output_bits old surface count) (λ on a. ok _ a.1.0) p
     does (call.OutputPutBits surface bytes) devices p = goes (surfaces.output_bits old surface (length bytes)) _ (output_bits old surface (length bytes)) (λ on a. ok _ a.1.0) p
-    does (call.OutputDestroy surface) devices p = goes (surfaces.output old surface) _ (handle old 0 (named old _ surface)) (λ on a. ok _ a.0) p
-    does (call.DecoderQuery device profile) devices p = goes (first_handle old (named old as_device device)) _ (handle old 0 (named old _ device)) (λ on a. ok _ a.0) p
+    does (call.OutputDestroy surface) devices p = goes (surfaces.output old surface) _ (handle old 0 (named old as_output surface)) (λ on a. ok _ a.0) p
+    does (call.DecoderQuery device profile) devices p = goes (first_handle old (named old as_device device)) _ (handle old 0 (named old as_device device)) (λ on a. ok _ a.0) p
     does (call.DecoderCreate device profile width height max_references) devices p =
-        makes (decoder_create old device profile width height max_references) _
-        (on_device old few device _ (λ on. then _ _ (guard _ refusal.BadProfile refl) (next _ _ (sized width height) (λ size. then _ _ (guard _ (refusal.BadInfo 0) refl) (then _ _ (free old few false refl) tt))))) names_few p
-    does (call.DecoderDestroy decoder) devices p = goes (surfaces.decoder old decoder) _ (handle old 0 (named old _ decoder)) (λ on a. ok _ a.0) p
-    does (call.MixerCreate device width height) devices p = makes (mixer_create old device width height) _ (on_device old few device _ (λ on. next _ _ (sized width height) (λ size. then _ _ (free old few false refl) tt))) names_few p
-    does (call.MixerSetMatrix mixer matrix) devices p = goes (surfaces.mixer old mixer) _ (handle old 0 (named old _ mixer)) (λ on a. ok _ a.0) p
-    does (call.MixerDestroy mixer) devices p = goes (surfaces.mixer old mixer) _ (handle old 0 (named old _ mixer)) (λ on a. ok _ a.0) p
-    does (call.QueueCreate device window) devices p =
-        makes (queue_create old device) _ (on_device old few device _ (λ on. then _ _ (free old few _ (ne_eqb (live_queues old) MAX_QUEUES (λ same. omega (arith, same, queues_few)))) tt)) names_few p
-    does (call.QueueDestroy queue) devices p = goes (queues.queue old queue) _ (handle old 0 (named old _ queue)) (λ on a. ok _ a.0) p
+        makes (decoder_create old device profile width height max_references) _ (new_decoder old few device profile width height max_references) names_few p
+    does (call.DecoderDestroy decoder) devices p = goes (surfaces.decoder old decoder) _ (handle old 0 (named old as_decoder decoder)) (λ on a. ok _ a.0) p
+    does (call.MixerCreate device width height) devices p = makes (mixer_create old device width height) _ (new_mixer old few device width height) names_few p
+    does (call.MixerSetMatrix mixer matrix) devices p = goes (surfaces.mixer old mixer) _ (handle old 0 (named old as_mixer mixer)) (λ on a. ok _ a.0) p
+    does (call.MixerDestroy mixer) devices p = goes (surfaces.mixer old mixer) _ (handle old 0 (named old as_mixer mixer)) (λ on a. ok _ a.0) p
+    does (call.QueueCreate device window) devices p = makes (queue_create old device) _ (new_queue old few device queues_few) names_few p
+    does (call.QueueDestroy queue) devices p = goes (queues.queue old queue) _ (handle old 0 (named old as_queue queue)) (λ on a. ok _ a.0) p
     does (call.QueueDisplay queue surface earliest) devices p = goes (queues.queue_display old queue surface earliest) _ (displayed old queue surface earliest) (λ on a. ok _ a.0) p
     does (call.QueryStatus queue surface) devices p = goes (queues.presented old queue surface) _ (presented old queue surface) (λ on a. ok _ a.0) p
     does (call.BlockUntilIdle queue surface) devices p = goes (queues.presented old queue surface) _ (presented old queue surface) (λ on a. ok _ a.1.0) p
-    does (call.GetTime queue) devices p = goes (queues.queue old queue) _ (handle old 0 (named old _ queue)) (λ on a. ok _ a.0) p
-    does (call.Promise queue time) devices p = goes (queues.queue old queue) _ (handle old 0 (named old _ queue)) (λ on a. ok _ a.0) p
+    does (call.GetTime queue) devices p = goes (queues.queue old queue) _ (handle old 0 (named old as_queue queue)) (λ on a. ok _ a.0) p
+    does (call.Promise queue time) devices p = goes (queues.queue old queue) _ (handle old 0 (named old as_queue queue)) (λ on a. ok _ a.0) p
     does (call.Advance device time) devices p = goes (clock.advance old device time) _ (advanced old device time) (λ on a. ok _ a.1) p
-    does (call.Preempt device) devices p = goes (clock.device old device) _ (handle old 0 (named old _ device)) (λ on a. ok _ a.0) p
+    does (call.Preempt device) devices p = goes (clock.device old device) _ (handle old 0 (named old as_device device)) (λ on a. ok _ a.0) p
     does (call.Poll wishes) devices p = goes (first_wish old wishes) _ (wishes_from old 0 wishes) (λ on a. ok _ a.0) p
     does (call.WaitUntil wishes) devices p = goes (first_wish old wishes) _ (wishes_from old 0 wishes) (λ on a. waited on a) p
     does call.Kept devices p = ok _ p.0

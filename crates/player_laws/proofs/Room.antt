@@ -103,6 +103,7 @@ kind_leads kind s t (item ∷ later) sane leads =
     omega (arith, one, rest, sum_by-cons (λ i. cond (makes_kind kind i) 1 0) item later)
 
 kind_made : (kind : ℕ) (callers : List (List ℕ)) (history : List Item) (s : State) → IsStateOf history s → AreMadeBy callers history → live_kind kind s ≤ added_up (λ items. count_by (makes_kind kind) items) callers history
+unfolding Leads
 kind_made kind callers history s leads made =
     let most = kind_leads kind empty_state s history (state_sane [] empty_state start) leads in
     let light : (item : Item) → given_by item ≡ None → cond (makes_kind kind item) 1 0 ≡ 0 = λ item none. ap (λ (o : Option ℕ). cond (option_map_or (λ name. kind_of name == kind) o false) 1 0) none in
@@ -110,7 +111,6 @@ kind_made kind callers history s leads made =
     omega (arith, most, all)
   where
     start : IsStateOf [] empty_state
-    unfolding Leads
     start = refl
 
 -- ---- sums
@@ -126,7 +126,7 @@ callers_add_up callers history s leads made = record {
       omega (arith, live, same_count, counted_names (is_live_name s) history, all, each);
   names =
       let given = names_are_given history s leads in
-      let long : length s.objects ≡ given_in history = sym (length-map (λ (object : Object). object.name) s.objects) ∙ ap length given in
+      let long : length s.objects ≡ given_in history = sym (length-map s.objects (λ (object : Object). object.name)) ∙ ap length given in
       let all = spread (weigh (λ name. true)) (weigh-none (λ name. true)) callers history made in
       let each : sum_by (λ caller. sum_by (weigh (λ name. true)) (items_of caller_of caller history)) callers ≡ added_up given_in callers history =
       each_same (weigh (λ name. true)) given_in (λ items. sym (counted_names (λ name. true) items) ∙ all_counted (filter_map given_by items)) callers in
@@ -183,7 +183,7 @@ live_objects_only_die front later s t caller leads more =
         let one : there.0 ≡ at.0 = eqb-true there.0 at.0 (at.1 there.0 now.0 now.1 ∙ eq-eqb now.0.name name (now.2.name ∙ there.3)) in
         let other : found.0 ≡ at.0 = eqb-true found.0 at.0 (at.1 found.0 found.1 found.2 ∙ eq-eqb found.1.name name found.4) in
         let same_object : now.0 ≡ found.1 = object_is now.0 found.1 (sym now.1 ∙ (ap (slice_get t.objects) (one ∙ sym other) ∙ found.2)) in
-        by_live there.1.is_live refl name there.0 there.1 there.2 there.3 (λ dead. absurd (false≢true (sym (now.2.dead dead) ∙ (ap (λ (o : Object). o.is_live) same_object ∙ found.3))))
+        by_live there.1.is_live name there.0 there.1 refl there.2 there.3 (λ dead. absurd (false≢true (sym (now.2.dead dead) ∙ (ap (λ (o : Object). o.is_live) same_object ∙ found.3))))
       where
         by_live : (b : Bool) (name place : ℕ) (one : Object) → one.is_live ≡ b → slice_get s.objects place ≡ Some one → one.name ≡ name → (one.is_live ≡ false → is_live_name s name ≡ true) → is_live_name s name ≡ true
         by_live true name place one is at named dead = ap (λ n. is_live_name s n) (sym named) ∙ live_name s.objects place one at is

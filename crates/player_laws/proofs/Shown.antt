@@ -190,9 +190,6 @@ module _ (script : List ScriptLine) (stream period : ℕ) where
     unfolding shown_from
     rise_from number [] = tt
     rise_from number (picture ∷ later) = by_tick (tick_in_time script stream period number) refl (rise_from (number + 1) later) where
-      abbrev Rest : List (ShownPicture P) → Type 0
-      Rest shown = Rises (times (shown ++ shown_from script stream period (number + 1) later))
-
       one_later : (at : ℕ) (others : List P) → tick_in_time script stream period number ≡ Some at → is_passed_over script stream period number at others ≡ false
           → AllByRecursion (λ other. at < other) (times (shown_from script stream period (number + 1) others))
       one_later at [] is not_passed = tt
@@ -206,10 +203,10 @@ module _ (script : List ScriptLine) (stream period : ℕ) where
           let other : time ≡ at → ⊥ = eqb-false time at apart in
           omega arith)
 
-      by_tick : (tick : Option ℕ) → tick_in_time script stream period number ≡ tick → Rises (times (shown_from script stream period (number + 1) later)) → Rest (shown_at script stream period number tick picture later)
+      by_tick : (tick : Option ℕ) → tick_in_time script stream period number ≡ tick → Rises (times (shown_from script stream period (number + 1) later)) → Rises (times (shown_at script stream period number tick picture later ++ shown_from script stream period (number + 1) later))
       by_tick None is rest = rest
       by_tick (Some at) is rest = by_test (is_passed_over script stream period number at later) refl where
-        by_test : (b : Bool) → is_passed_over script stream period number at later ≡ b → Rest (if b then [] else record { picture = picture; time = at } ∷ [])
+        by_test : (b : Bool) → is_passed_over script stream period number at later ≡ b → Rises (times ((if b then [] else record { picture = picture; time = at } ∷ []) ++ shown_from script stream period (number + 1) later))
         by_test true e = rest
         by_test false e = (one_later at later is e, rest)
 
@@ -228,7 +225,7 @@ ticks_are_found-from time number (Preempt preempts stream ∷ lines) = ticks_are
 position-cons : {A : Type 0} (p : A → Bool) (x : A) (xs : List A) → position p (x ∷ xs) ≡ cond (p x) (Some 0) (option_map (λ n. 1 + n) (position p xs))
 position-cons p x xs = by_test (p x) where
   by_test : (b : Bool) → cond (nat_lt (cond (not b) (1 + position_or_len p xs) 0) (length (x ∷ xs))) (Some (cond (not b) (1 + position_or_len p xs) 0)) None ≡ cond b (Some 0) (option_map (λ n. 1 + n) (position p xs))
-  by_test true = refl
+  by_test true = let k : nat_lt 0 (length (x ∷ xs)) ≡ true = grind (arith, nat_tests) in ap (λ t. cond t (Some 0) None) k
   by_test false = by_less (nat_lt (position_or_len p xs) (length xs)) refl where
     by_less : (b : Bool) → nat_lt (position_or_len p xs) (length xs) ≡ b → cond (nat_lt (1 + position_or_len p xs) (length (x ∷ xs))) (Some (1 + position_or_len p xs)) None ≡ option_map {U = ℕ} (λ n. 1 + n) (cond b (Some (position_or_len p xs)) None)
     by_less true e = let k : nat_lt (1 + position_or_len p xs) (length (x ∷ xs)) ≡ true = grind (arith, nat_tests) in ap (λ b. cond b (Some (1 + position_or_len p xs)) None) k

@@ -1,3 +1,4 @@
 pub mod Devices
+pub mod Displays
 pub mod Room
 pub mod Shown

@@ -4,4 +4,3 @@ pub mod States
 pub mod Counts
 pub mod Fullness
 pub mod Room
-pub mod QueueSteps

@@ -1,4 +1,3 @@
 pub mod Devices
-pub mod Displays
 pub mod Room
 pub mod Shown

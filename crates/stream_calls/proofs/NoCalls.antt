@@ -14,11 +14,11 @@ use Rattle.driver_model.specs.declared.items.Item.{Item}
 use Rattle.driver_model.specs.declared.items.Item.TheVariants.{Called}
 use Rattle.file_pictures.specs.Files.{Decoded}
 use Rattle.stream_calls.specs.Counted.{has_done, is_display, is_render}
-use Rattle.stream_calls.specs.Displays.{AreDisplayed, DisplaysTheShown}
+use Rattle.stream_calls.specs.Displays.{AreDisplayed, DisplaysTheShown, TakesShown}
 use Rattle.stream_calls.specs.Laws.{FeedingKeepsStreamCalls, NoCallsAreAStreams, feeding}
 use Rattle.stream_calls.specs.OneDevice.{StaysOnOneDevice}
 use Rattle.stream_calls.specs.Promises.{PromisesInTime}
-use Rattle.stream_calls.specs.Renders.{AreRendered, RendersTheFile}
+use Rattle.stream_calls.specs.Renders.{AreRendered, RendersTheFile, TakesPicture}
 use Rattle.stream_calls.specs.StreamCalls.{AreStreamCalls, Fed, FollowsTheFile, MayBeFile, Stream, shown_of}
 
 not_empty : {A : Type 0} (front later : List Item) (item : Item) → (let l : List Item = [] in l ≡ front ++ item ∷ later) → A
@@ -69,12 +69,7 @@ module _ (caller : List ℕ) where
   nothing_rendered s t (item ∷ later) leads none =
       let others = not_first item later none in
       let rest = nothing_rendered leads.0 t later leads.2 others.1 in
-      (leads.0, leads.1, by_test (same caller (caller_of item) && has_done is_render item) (other_item (has_done is_render) item others.0) rest)
-    where
-      by_test : (b : Bool) → b ≡ false → AreRendered caller leads.0 later []
-          → (if b then (one : Decoded) × (more : List Decoded) × ((let l : List Decoded = [] in l ≡ one ∷ more)) × _ × AreRendered caller leads.0 later more else AreRendered caller leads.0 later [])
-      by_test true e rest = absurd (let k : true ≡ false = e in cc)
-      by_test false e rest = rest
+      (leads.0, leads.1, [], subst (λ b. TakesPicture b item leads.0 [] []) (sym (other_item (has_done is_render) item others.0)) refl, rest)
 
   nothing_displayed : (s t : State) (items : List Item) → Leads s items t → own items ≡ [] → AreDisplayed caller s items []
   unfolding AreDisplayed Leads
@@ -82,8 +77,7 @@ module _ (caller : List ℕ) where
   nothing_displayed s t (item ∷ later) leads none =
       let others = not_first item later none in
       let rest = nothing_displayed leads.0 t later leads.2 others.1 in
-      let off : (same caller (caller_of item) && has_done is_display item) ≡ false = other_item (has_done is_display) item others.0 in
-      (leads.0, leads.1, subst (λ b. if b then _ else AreDisplayed caller leads.0 later []) (sym off) rest)
+      (leads.0, leads.1, [], subst (λ b. TakesShown b s item [] []) (sym (other_item (has_done is_display) item others.0)) refl, rest)
 
   pub follows_nothing : (stream : Stream) (seen : List Item) (accepted : List Decoded) → IsLegal seen → own seen ≡ [] → FollowsTheFile stream seen caller accepted
   follows_nothing stream seen accepted legal none = record {

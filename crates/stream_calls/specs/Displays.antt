@@ -1,5 +1,5 @@
 -- The displays of a stream's calls are those of the pictures that a script shows of the file.
-use Rattle.std.specs.Prelude.{◌≡◌, ℕ, Bool, true, false, ◌&&◌, if◌then◌else◌, List, [], ◌∷◌, ◌++◌, Some}
+use Rattle.std.specs.Prelude.{◌≡◌, ℕ, Bool, true, false, ◌&&◌, List, [], ◌∷◌, ◌++◌, Some}
 use Rattle.cb_types.specs.SizeMbs.{luma_height, luma_width}
 use Rattle.device_lock.specs.Lists.{same}
 use Rattle.mixer.specs.Mixed.{IsMixed}
@@ -38,15 +38,20 @@ IsDisplayAt before (Ended mark) shown = ⊥
 abbrev pub is_own_display : List ℕ → Item → Bool
 is_own_display caller item = same caller (caller_of item) && has_done is_display item
 
+-- A display of the caller takes the first of the shown pictures; any other item takes none.
+abbrev pub TakesShown : (is_own : Bool) → (before : State) → Item → (shown others : List (ShownPicture Picture)) → Type 0
+TakesShown true before item shown others = (one : ShownPicture Picture) × (shown ≡ one ∷ others) × IsDisplayAt before item one
+TakesShown false before item shown others = shown ≡ others
+
 -- From this state on, the caller's displays that were done are those of these shown pictures, one after the other.
 unfoldable pub AreDisplayed : List ℕ → State → List Item → List (ShownPicture Picture) → Type 0
 AreDisplayed caller s [] shown = shown ≡ []
 AreDisplayed caller s (item ∷ later) shown =
     (after : State)
     × Happens s item after
-    × (if is_own_display caller item
-    then (one : ShownPicture Picture) × (others : List (ShownPicture Picture)) × (shown ≡ one ∷ others) × IsDisplayAt s item one × AreDisplayed caller after later others
-    else AreDisplayed caller after later shown)
+    × (others : List (ShownPicture Picture))
+    × TakesShown (is_own_display caller item) s item shown others
+    × AreDisplayed caller after later others
 
 -- The caller's displays in the history are those of the first pictures that are shown, and no mix of it goes into a surface that isn't
 -- idle before.

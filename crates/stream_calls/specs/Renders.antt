@@ -1,5 +1,5 @@
 -- The renders of a stream's calls are those of the file's pictures.
-use Rattle.std.specs.Prelude.{◌≡◌, ℕ, Bool, true, false, ◌&&◌, if◌then◌else◌, List, [], ◌∷◌, ◌++◌, reverse, Some}
+use Rattle.std.specs.Prelude.{◌≡◌, ℕ, Bool, true, false, ◌&&◌, List, [], ◌∷◌, ◌++◌, reverse, Some}
 use Rattle.cb_types.specs.declared.picture_info.PictureInfo.{PictureInfo}
 use Rattle.device_lock.specs.Lists.{same}
 use Rattle.access_units.specs.Pictures.{submission_of}
@@ -32,16 +32,20 @@ IsRenderAt (Ended mark) after one = ⊥
 abbrev pub is_own_render : List ℕ → Item → Bool
 is_own_render caller item = same caller (caller_of item) && has_done is_render item
 
--- From this state on, the caller's renders that were done are those of these pictures, one after the other. Each leaves its target with
--- the picture's samples.
+-- A render of the caller takes the first of the pictures, and leaves its target with that picture's samples; any other item takes none.
+abbrev pub TakesPicture : (is_own : Bool) → Item → (after : State) → (pictures others : List Decoded) → Type 0
+TakesPicture true item after pictures others = (one : Decoded) × (pictures ≡ one ∷ others) × IsRenderAt item after one
+TakesPicture false item after pictures others = pictures ≡ others
+
+-- From this state on, the caller's renders that were done are those of these pictures, one after the other.
 unfoldable pub AreRendered : List ℕ → State → List Item → List Decoded → Type 0
 AreRendered caller s [] pictures = pictures ≡ []
 AreRendered caller s (item ∷ later) pictures =
     (after : State)
     × Happens s item after
-    × (if is_own_render caller item
-    then (one : Decoded) × (others : List Decoded) × (pictures ≡ one ∷ others) × IsRenderAt item after one × AreRendered caller after later others
-    else AreRendered caller after later pictures)
+    × (others : List Decoded)
+    × TakesPicture (is_own_render caller item) item after pictures others
+    × AreRendered caller after later others
 
 -- The caller's renders in the history are those of the first pictures of a file, whose accepted pictures are these, the newest first.
 pub record RendersTheFile (seen : List Item) (caller : List ℕ) (accepted : List Decoded) : Type 0 where

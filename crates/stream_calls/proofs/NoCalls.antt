@@ -1,25 +1,23 @@
 -- Who has made no calls yet, and what is fed.
-use Rattle.std.proofs.Common.{◌≡◌, ◌≢◌, ℕ, zero, suc, ◌+◌, ◌*◌, ◌≤◌, Bool, true, false, cond, ◌&&◌, if◌then◌else◌, List, [], ◌∷◌, ◌++◌, slice_get, Option, Some, refl, ap, sym, ◌∙◌, subst, arith}
+use Rattle.std.proofs.Common.{◌≡◌, ℕ, Bool, true, false, cond, ◌&&◌, List, [], ◌∷◌, ◌++◌, slice_get, Option, Some, refl, ap, sym, ◌∙◌, subst, arith}
 use Rattle.std.proofs.lemmas.List.{append_assoc}
 use Rattle.device_lock.specs.Lists.{same}
 use Rattle.device_lock.specs.Numbers.{items_of}
 use Rattle.vd_plane.specs.declared.picture.Picture.{Picture}
 use Rattle.driver_model.specs.Histories.{IsLegal, Leads}
-use Rattle.driver_model.specs.Objects.{OutputSurface}
 use Rattle.driver_model.specs.Passes.{caller_of}
 use Rattle.driver_model.specs.ShownPictures.{ShownPicture}
-use Rattle.driver_model.specs.States.{State, Found, empty_state}
-use Rattle.driver_model.specs.declared.items.Entry.{Entry}
+use Rattle.driver_model.specs.States.{State, empty_state}
 use Rattle.driver_model.specs.declared.items.Item.{Item}
 use Rattle.driver_model.specs.declared.items.Item.TheVariants.{Called}
 use Rattle.file_pictures.specs.Files.{Decoded}
 use Rattle.stream_calls.specs.Counted.{has_done, is_display, is_render}
-use Rattle.stream_calls.specs.Displays.{AreDisplayed, DisplaysTheShown, TakesShown}
+use Rattle.stream_calls.specs.Displays.{AreDisplayed, TakesShown}
 use Rattle.stream_calls.specs.Laws.{FeedingKeepsStreamCalls, NoCallsAreAStreams, feeding}
 use Rattle.stream_calls.specs.OneDevice.{StaysOnOneDevice}
 use Rattle.stream_calls.specs.Promises.{PromisesInTime}
-use Rattle.stream_calls.specs.Renders.{AreRendered, RendersTheFile, TakesPicture}
-use Rattle.stream_calls.specs.StreamCalls.{AreStreamCalls, Fed, FollowsTheFile, MayBeFile, Stream, shown_of}
+use Rattle.stream_calls.specs.Renders.{AreRendered, TakesPicture}
+use Rattle.stream_calls.specs.StreamCalls.{Fed, FollowsTheFile, MayBeFile, Stream, shown_of}
 
 not_empty : {A : Type 0} (front later : List Item) (item : Item) → (let l : List Item = [] in l ≡ front ++ item ∷ later) → A
 not_empty [] later item e = absurd (let k : (let l : List Item = [] in l ≡ item ∷ later) = e in cc)

@@ -1,9 +1,8 @@
 -- Which items of a history count, and as what.
-use Rattle.std.specs.Prelude.{ℕ, ◌==◌, Bool, true, false, not, ◌&&◌, ◌||◌, if◌then◌else◌, List, [], ◌∷◌, count_by, filter_map, Option, Some, None, Ok, Err}
-use Rattle.std.specs.Option.{is_some}
+use Rattle.std.specs.Prelude.{ℕ, Bool, true, false, not, ◌&&◌, ◌||◌, if◌then◌else◌, List, [], ◌∷◌, count_by, filter_map, Option, Some, None, Ok, Err}
 use Rattle.vd_status.specs.declared.refusal.Refusal.TheVariants.{HandlesFull, OutOfMemory}
 use Rattle.driver_model.specs.Answers.{Reply}
-use Rattle.driver_model.specs.Parts.{given_by, name_given}
+use Rattle.driver_model.specs.Parts.{name_given}
 use Rattle.driver_model.specs.declared.calls.Call.{Call}
 use Rattle.driver_model.specs.declared.calls.Call.TheVariants as call
 use Rattle.driver_model.specs.declared.items.Item.{Item}

@@ -1,5 +1,5 @@
 -- What follows of the calls of a stream.
-use Rattle.std.specs.Prelude.{◌≡◌, ℕ, Bool, true, false, List, [], ◌∷◌, ◌++◌, Ok, Err}
+use Rattle.std.specs.Prelude.{◌≡◌, ℕ, true, false, List, [], ◌∷◌, ◌++◌, Ok, Err}
 use Rattle.device_lock.specs.Numbers.{items_of}
 use Rattle.vd_status.specs.declared.refusal.Refusal.TheVariants.{HandlesFull, OutOfMemory, QueueFull}
 use Rattle.driver_model.specs.Answers.{Reply}
@@ -9,8 +9,8 @@ use Rattle.driver_model.specs.declared.calls.Call.{Call}
 use Rattle.driver_model.specs.declared.calls.Call.TheVariants as call
 use Rattle.driver_model.specs.declared.items.Item.{Item}
 use Rattle.driver_model.specs.declared.items.Item.TheVariants.{Called, Ended}
-use Rattle.driver_model.specs.declared.replies.Answer.TheVariants.{Done, Name}
-use Rattle.stream_calls.specs.Counted.{device_of, is_counted}
+use Rattle.driver_model.specs.declared.replies.Answer.TheVariants.{Done}
+use Rattle.stream_calls.specs.Counted.{is_counted}
 use Rattle.stream_calls.specs.StreamCalls.{AreStreamCalls, Fed, Stream}
 use Rattle.stream_calls.specs.Strangers.{is_strangers}
 

@@ -1,5 +1,5 @@
 -- The calls of a stream stay on one device, which they make, and are few.
-use Rattle.std.specs.Prelude.{◌≡◌, ◌≢◌, ℕ, ◌+◌, ◌*◌, ◌≤◌, Bool, true, false, List, [], ◌∷◌, ◌++◌, count_by, slice_get, Some, None}
+use Rattle.std.specs.Prelude.{◌≡◌, ◌≢◌, ℕ, ◌+◌, ◌*◌, ◌≤◌, Bool, true, false, List, ◌∷◌, ◌++◌, count_by, slice_get, Some, None}
 use Rattle.std.specs.List.{list_any}
 use Rattle.driver_model.specs.Histories.{IsStateOf}
 use Rattle.driver_model.specs.Parts.{first_name, is_among, names_in, names_of}

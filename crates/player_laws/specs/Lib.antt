@@ -1,3 +1,6 @@
 pub mod Devices
+pub mod Displays
+pub mod FlipParts
+pub mod FlipTexts
 pub mod Room
 pub mod Shown

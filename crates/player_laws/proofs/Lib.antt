@@ -10,3 +10,4 @@ pub mod QueueSteps
 pub mod QueueTicks
 pub mod FlipParts
 pub mod TextOrder
+pub mod FlipWindows

@@ -217,7 +217,7 @@ late_append ticks (x ∷ xs) ys one other = (one.0, late_append ticks xs ys one.
 none_is : {T A : Type 0} (value : T) → (let o : Option T = None in o ≡ Some value) → A
 none_is {T} value e = absurd (let k : (let o : Option T = None in o ≡ Some value) = e in cc)
 
-content_queue : (content : Content) (of : PresentationQueue) → as_queue content ≡ Some of → content ≡ QueueObject of
+pub content_queue : (content : Content) (of : PresentationQueue) → as_queue content ≡ Some of → content ≡ QueueObject of
 content_queue (DeviceObject is) of e = none_is of e
 content_queue (VideoObject is) of e = none_is of e
 content_queue (OutputObject is) of e = none_is of e

@@ -108,11 +108,14 @@ pub record IsNewQueue (old : State) (asked : Call) (one : Object) : Type 0 where
   pub root : Object
   pub stands : slice_get old.objects one.device ≡ Some root
   pub first : first_name asked ≡ Some root.name
+  pub handle : ℕ
+  pub created : asked ≡ call.QueueCreate handle window
 
 pub record Grows (queue device : ℕ) (old new : State) (asked : Call) (reply : Reply) : Type 0 where
   pub calm : Calm queue device old asked reply
   pub one : Object
   pub grows : new ≡ with_object old one
+  pub answers : reply ≡ Ok (Name one.name)
   pub gives : name_given reply ≡ Some one.name
   pub fresh : is_given old one.name ≡ false
   pub kind : (as_queue one.content ≡ None) ⊎ IsNewQueue old asked one
@@ -297,7 +300,7 @@ module _ (queue device : ℕ) (old new : State) (caller : List ℕ) (reply : Rep
 
   makes : (asked : Call) (looked : Looked ℕ) (IsContent : Content → Type 0) → asked_in old queue asked reply ≡ [] → tick_in device asked reply ≡ None
       → ((place : ℕ) (content : Content) → looked ≡ Ok place → IsContent content
-      → (as_queue content ≡ None) ⊎ ((window : ℕ) × (content ≡ new_queue window) × (root : Object) × (slice_get old.objects place ≡ Some root) × (first_name asked ≡ Some root.name)))
+      → (as_queue content ≡ None) ⊎ ((window : ℕ) × (content ≡ new_queue window) × (root : Object) × (slice_get old.objects place ≡ Some root) × (first_name asked ≡ Some root.name) × ((handle : ℕ) × (asked ≡ call.QueueCreate handle window))))
       → Creates old reply new looked IsContent → Is asked
   makes asked (Err r) IsContent asks ticks kind p = refused asked r p.0 p.1
   makes asked (Ok place) IsContent asks ticks kind (inr p) = refused asked _ p.1.0 p.1.1
@@ -305,11 +308,12 @@ module _ (queue device : ℕ) (old new : State) (caller : List ℕ) (reply : Rep
     calm = record { asks = asks; ticks = ticks; tells = ap flips_told p.tells };
     one = record { name = p.name; device = place; is_live = true; content = p.content };
     grows = p.after;
+    answers = p.tells;
     gives = ap name_given p.tells;
     fresh = p.fresh;
     kind = elim (kind place p.content refl p.is_content) [
       | inl none ↦ inl none
-      | inr is ↦ inr (record { window = is.0; content = is.1; live = refl; root = is.2; stands = is.3; first = is.4 })
+      | inr is ↦ inr (record { window = is.0; content = is.1; live = refl; root = is.2; stands = is.3; first = is.4; handle = is.5.0; created = is.5.1 })
     ];
   })
 
@@ -371,7 +375,7 @@ module _ (queue device : ℕ) (old new : State) (caller : List ℕ) (reply : Rep
       makes (call.QueueCreate on window) (queue_create old on) (λ content. content ≡ new_queue window) refl refl (λ place content h e.
       let at = queue_made old on place h in
       let is = named-Some as_device on old at.1 at.2 in
-      inr (window, e, is.0, subst (λ n. slice_get old.objects n ≡ Some is.0) at.3 is.1, ap (λ (n : ℕ). Some n) (sym is.2.has_name))) p
+      inr (window, e, is.0, subst (λ n. slice_get old.objects n ≡ Some is.0) at.3 is.1, ap (λ (n : ℕ). Some n) (sym is.2.has_name), (on, refl))) p
   does (call.QueueDestroy handle) p =
       goes (call.QueueDestroy handle) (queues.queue old handle) _ (λ on h a. IsQueueEnd (record { handle = handle; is_call = refl; answers = a.0; on = on; queue = first_handle-Ok old (named old as_queue handle) on h; leaves = a.1 })) p
   does (call.QueueDisplay handle surface earliest) p =

@@ -3,6 +3,7 @@ ghost use Rattle.player_laws.specs.Devices.{NamesAreOfTheDevice, ObjectsStay, Ot
 ghost use Rattle.player_laws.specs.Displays.{DisplaysAreFlipped};
 ghost use Rattle.player_laws.specs.FlipParts.{FlipsAreOfTheirParts};
 ghost use Rattle.player_laws.specs.FlipTexts.{OrderedFlipsAreWritten, TextsGoOn};
+ghost use Rattle.player_laws.specs.FlipWindows.{FlipsAreInTheirWindows};
 ghost use Rattle.player_laws.specs.Room.{CallersAddUp, CreatesFindRoom, LiveObjectsOnlyDie, SixteenCallersFindRoom};
 ghost use Rattle.player_laws.specs.Shown.{FrontsAreSettled, LastsAreOpen, LatePicturesAreNotShown, LaterPicturesShowLater, ShownTimesRise, TicksAreFound, TicksInTimeAreFound};
 
@@ -57,6 +58,11 @@ pub fn displays_are_flipped()
 /// The flips of what is about a device in a history are those that the whole history has on the device's queues.
 pub fn flips_are_of_their_parts()
     ensures { FlipsAreOfTheirParts }
+{}
+
+/// Each flip is in the window that its queue was made for.
+pub fn flips_are_in_their_windows()
+    ensures { FlipsAreInTheirWindows }
 {}
 
 /// Flips that are written by their times, and at one time by their streams, have their text one after the other; and

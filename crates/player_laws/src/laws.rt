@@ -1,5 +1,9 @@
 // What a player knows.
 ghost use Rattle.player_laws.specs.Devices.{NamesAreOfTheDevice, ObjectsStay, OthersLeaveTheDevice, StepsStayOnOneDevice};
+ghost use Rattle.player_laws.specs.Displays.{DisplaysAreFlipped};
+ghost use Rattle.player_laws.specs.FlipParts.{FlipsAreOfTheirParts};
+ghost use Rattle.player_laws.specs.FlipTexts.{OrderedFlipsAreWritten, TextsGoOn};
+ghost use Rattle.player_laws.specs.FlipWindows.{FlipsAreInTheirWindows};
 ghost use Rattle.player_laws.specs.Room.{CallersAddUp, CreatesFindRoom, LiveObjectsOnlyDie, SixteenCallersFindRoom};
 ghost use Rattle.player_laws.specs.Shown.{FrontsAreSettled, LastsAreOpen, LatePicturesAreNotShown, LaterPicturesShowLater, ShownTimesRise, TicksAreFound, TicksInTimeAreFound};
 
@@ -42,4 +46,28 @@ pub fn callers_add_up()
 pub fn creates_find_room()
     ensures room { CreatesFindRoom }
     ensures sixteen { SixteenCallersFindRoom }
+{}
+
+/// Of a queue on which displays are made for ticks of a clock, each in time, the flips are those that the displays ask
+/// for, in their order, as far as their times were ticked: each has what its surface had at its display. The queue's
+/// entries are the other ones.
+pub fn displays_are_flipped()
+    ensures { DisplaysAreFlipped }
+{}
+
+/// The flips of what is about a device in a history are those that the whole history has on the device's queues.
+pub fn flips_are_of_their_parts()
+    ensures { FlipsAreOfTheirParts }
+{}
+
+/// Each flip is in the window that its queue was made for.
+pub fn flips_are_in_their_windows()
+    ensures { FlipsAreInTheirWindows }
+{}
+
+/// Flips that are written by their times, and at one time by their streams, have their text one after the other; and
+/// what comes behind them adds its own.
+pub fn ordered_flips_are_written()
+    ensures written { OrderedFlipsAreWritten }
+    ensures more { TextsGoOn }
 {}

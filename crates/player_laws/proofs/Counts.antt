@@ -1,6 +1,6 @@
 -- What is counted over a history is counted over its callers' items.
-use Rattle.std.proofs.Common.{◌≡◌, ◌⊎◌, inl, inr, ℕ, zero, suc, ◌+◌, ◌*◌, ◌≤◌, ◌<◌, ◌==◌, ◌||◌, Bool, true, false, cond, List, [], ◌∷◌, ◌++◌, filter_map, length, Option, Some, None, refl, ap, sym, ◌∙◌, subst, arith}
-use Rattle.std.proofs.lemmas.Bool.{eqb-true, false≢true}
+use Rattle.std.proofs.Common.{◌≡◌, ℕ, ◌+◌, ◌*◌, ◌≤◌, ◌==◌, ◌||◌, Bool, true, false, cond, List, [], ◌∷◌, filter_map, length, Option, Some, None, refl, ap, sym, ◌∙◌, subst, arith}
+use Rattle.std.proofs.lemmas.Bool.{false≢true}
 use Rattle.std.proofs.lemmas.List.Sums.{sum_by-cons}
 use Rattle.std.specs.List.{AllByRecursion, cons_option, count_by, list_any, sum_by}
 use Rattle.std.specs.Option.{is_some, option_map_or}
@@ -10,7 +10,7 @@ use Rattle.device_lock.proofs.Callers.{same_is}
 use Rattle.driver_model.specs.Parts.{given_by, is_among}
 use Rattle.driver_model.specs.Passes.{caller_of}
 use Rattle.driver_model.specs.declared.items.Item.{Item}
-use Rattle.player_laws.specs.Room.{AreMadeBy, given_in}
+use Rattle.player_laws.specs.Room.{AreMadeBy}
 
 -- ---- over callers
 

@@ -1,19 +1,18 @@
 -- Calls leave the objects of devices that they aren't about.
-use Rattle.std.proofs.Common.{◌≡◌, ◌≢◌, inl, inr, ℕ, zero, suc, ◌==◌, ◌||◌, Bool, true, false, List, [], ◌∷◌, ◌++◌, slice_get, Option, Some, refl, ap, sym, ◌∙◌, subst, arith}
+use Rattle.std.proofs.Common.{◌≡◌, ◌≢◌, inl, inr, ℕ, suc, ◌==◌, ◌||◌, Bool, true, false, List, [], ◌∷◌, ◌++◌, slice_get, Option, Some, refl, ap, sym, ◌∙◌, subst}
 use Rattle.std.proofs.lemmas.Bool.{eq-eqb, eqb-true, false≢true, ne_eqb, or_parts}
 use Rattle.std.specs.List.{list_any}
 use Rattle.std.specs.Option.{option_map_or}
 use Rattle.driver_model.specs.Answers.{Reply}
 use Rattle.driver_model.specs.Histories.{Happens, IsStateOf, Leads}
 use Rattle.driver_model.specs.Objects.{Object}
-use Rattle.driver_model.specs.Parts.{first_name, is_among, is_first, names_of}
+use Rattle.driver_model.specs.Parts.{is_among, is_first, names_of}
 use Rattle.driver_model.specs.States.{State}
 use Rattle.driver_model.specs.Steps.{Step}
 use Rattle.driver_model.specs.declared.calls.Call.{Call}
 use Rattle.driver_model.specs.declared.items.Entry.{Entry}
 use Rattle.driver_model.specs.declared.items.Item.{Item}
 use Rattle.driver_model.specs.declared.items.Item.TheVariants.{Called, Ended}
-use Rattle.driver_model.proofs.Named.{object_is}
 use Rattle.driver_model.proofs.PartCalls.{step_effect}
 use Rattle.driver_model.proofs.PartEffects.{Effect, IsOn}
 use Rattle.driver_model.proofs.PartOwned.{Extends, IsSane, get_still, happens_extends, happens_sane, leads_extends}

@@ -1,5 +1,5 @@
 -- The flips of what is about a device.
-use Rattle.std.proofs.Common.{◌≡◌, ℕ, ◌+◌, ◌==◌, not, ◌&&◌, ◌||◌, Bool, true, false, if◌then◌else◌, List, [], ◌∷◌, ◌++◌, filter, flat_map, map, slice_get, Option, Some, None, Ok, refl, ap, sym, ◌∙◌, subst, arith}
+use Rattle.std.proofs.Common.{◌≡◌, ℕ, ◌+◌, ◌==◌, not, ◌&&◌, ◌||◌, Bool, true, false, if◌then◌else◌, List, [], ◌∷◌, ◌++◌, filter, flat_map, map, slice_get, Option, Some, None, refl, ap, sym, ◌∙◌, arith}
 use Rattle.std.proofs.lemmas.Bool.Decides.{nat_tests}
 use Rattle.std.proofs.lemmas.List.Elements.{filter-append}
 use Rattle.std.specs.List.{AllByRecursion, list_any, position}
@@ -10,12 +10,10 @@ use Rattle.driver_model.specs.Histories.{Leads}
 use Rattle.driver_model.specs.Objects.{Object}
 use Rattle.driver_model.specs.Parts.{is_about, is_among, is_creation, is_first, is_out_of_handles, names_of, part_from}
 use Rattle.driver_model.specs.States.{State, empty_state, name_at}
-use Rattle.driver_model.specs.Steps.{Step}
 use Rattle.driver_model.specs.declared.calls.Call.TheVariants as call
 use Rattle.driver_model.specs.declared.items.Entry.{Entry}
 use Rattle.driver_model.specs.declared.items.Item.{Item}
 use Rattle.driver_model.specs.declared.items.Item.TheVariants.{Called, Ended}
-use Rattle.driver_model.specs.declared.replies.Answer.TheVariants.{Done}
 use Rattle.driver_model.specs.declared.replies.Flipped.{Flipped}
 use Rattle.driver_model.specs.Objects.{as_device}
 use Rattle.driver_model.proofs.Named.{named-Some}

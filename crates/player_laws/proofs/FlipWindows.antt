@@ -1,9 +1,9 @@
 -- Each flip is in the window of its queue.
-use Rattle.std.proofs.Common.{◌≡◌, ◌≢◌, ◌⊎◌, inl, inr, ℕ, zero, suc, ◌+◌, ◌==◌, Bool, true, false, if◌then◌else◌, List, [], ◌∷◌, ◌++◌, flat_map, length, map, slice_get, Option, Some, None, Ok, refl, ap, sym, ◌∙◌, subst, arith}
-use Rattle.std.proofs.lemmas.Bool.{cases_eq, eq-eqb, eqb-true, false≢true}
+use Rattle.std.proofs.Common.{◌≡◌, inl, inr, ℕ, zero, suc, ◌==◌, Bool, true, false, if◌then◌else◌, List, [], ◌∷◌, ◌++◌, flat_map, length, map, slice_get, Option, Some, None, Ok, refl, ap, sym, ◌∙◌, subst, arith}
+use Rattle.std.proofs.lemmas.Bool.{cases_eq}
 use Rattle.std.proofs.lemmas.List.{append_assoc}
 use Rattle.std.specs.List.{AllByRecursion}
-use Rattle.std.specs.Option.{is_some, option_and_then, option_map_or}
+use Rattle.std.specs.Option.{option_and_then, option_map_or}
 use Rattle.present_queue.specs.Queue.{displayed, empty_queue, promised, ticked}
 use Rattle.driver_model.specs.Answers.{Reply}
 use Rattle.driver_model.specs.Clock.{Due, all_due, all_shown, destroyed_on, flip_of, let_go, shown, with_flip, with_tick}
@@ -20,14 +20,14 @@ use Rattle.driver_model.specs.declared.items.Entry.{Entry}
 use Rattle.driver_model.specs.declared.items.Item.{Item}
 use Rattle.driver_model.specs.declared.items.Item.TheVariants.{Called, Ended}
 use Rattle.driver_model.specs.declared.numbers.TheConstants.{PRESENTATION_QUEUE}
-use Rattle.driver_model.specs.declared.replies.Answer.TheVariants.{Done, Name}
+use Rattle.driver_model.specs.declared.replies.Answer.TheVariants.{Name}
 use Rattle.driver_model.specs.declared.replies.Flipped.{Flipped}
 use Rattle.driver_model.proofs.Named.{named-Some, object_is}
 use Rattle.driver_model.proofs.OwedPlaces.{changed_here}
 use Rattle.driver_model.proofs.PartCalls.{step_effect}
 use Rattle.driver_model.proofs.PartEffects.{Effect}
-use Rattle.driver_model.proofs.PartOwned.{IsSane, get_more, get_still, happens_sane}
-use Rattle.driver_model.proofs.PartStill.{is_queue-kind, still_back}
+use Rattle.driver_model.proofs.PartOwned.{IsSane, get_more, get_still}
+use Rattle.driver_model.proofs.PartStill.{still_back}
 use Rattle.driver_model.proofs.SoundChanges.{nothing_there}
 use Rattle.player_laws.specs.FlipWindows.{FlipsAreInTheirWindows, IsWindowOf}
 use Rattle.player_laws.proofs.QueueSteps.{Grows, IsDeviceEnd, IsDisplay, IsGrown, IsPromise, IsQueueEnd, IsQuiet, IsTick, IsWrite, Kind, changed_other, step_kind}
@@ -52,11 +52,14 @@ all_same objects place a e = (a, e, window_same a)
 all_then : (one two three : List Object) → AllWindows one two → AllWindows two three → AllWindows one three
 all_then one two three f s place a e =
     let x = f place a e in
-    let y = s place x.0 x.1 in
-    (y.0, y.1, λ of is.
-    let p = x.2 of is in
-    let q = y.2 p.0 p.1 in
-    (q.0, q.1, q.2 ∙ p.2))
+    let y = s place x.0 x.1 in (
+      y.0,
+      y.1,
+      λ of is.
+          let p = x.2 of is in
+          let q = y.2 p.0 p.1 in
+          (q.0, q.1, q.2 ∙ p.2),
+    )
 
 changed_windows : (change : Object → Object) (other : ℕ) (objects : List Object) → ((a : Object) → slice_get objects other ≡ Some a → KeepsWindow a (change a)) → AllWindows objects (changed_at other change objects)
 changed_windows change other objects keeps place a e = elim (cases_eq other place) [
@@ -206,9 +209,10 @@ due_windows front s on time have (one ∷ later) all =
     let content : q.object.content ≡ QueueObject q.of = content_queue q.object.content q.of q.is_queue in
     let name : name_at s one.queue ≡ q.object.name = ap (λ (o : Option Object). option_map_or (λ (x : Object). x.name) o 0) q.stands in
     let window : option_map_or (λ (on : PresentationQueue). on.window) (content_at s as_queue one.queue) 0 ≡ q.of.window =
-    ap (λ (o : Option Object). option_map_or (λ (on : PresentationQueue). on.window) (option_and_then (λ (x : Object). as_queue x.content) o) 0) q.stands ∙ ap (λ (o : Option PresentationQueue). option_map_or (λ (on : PresentationQueue). on.window) o 0) q.is_queue in
-    (subst (λ n. IsWindowOf front n (option_map_or (λ (on : PresentationQueue). on.window) (content_at s as_queue one.queue) 0)) (sym name) (subst (λ w. IsWindowOf front q.object.name w) (sym window) (have one.queue q.object q.of q.stands content)),
-    due_windows front s on time have later all.1)
+    ap (λ (o : Option Object). option_map_or (λ (on : PresentationQueue). on.window) (option_and_then (λ (x : Object). as_queue x.content) o) 0) q.stands ∙ ap (λ (o : Option PresentationQueue). option_map_or (λ (on : PresentationQueue). on.window) o 0) q.is_queue in (
+      subst (λ n. IsWindowOf front n (option_map_or (λ (on : PresentationQueue). on.window) (content_at s as_queue one.queue) 0)) (sym name) (subst (λ w. IsWindowOf front q.object.name w) (sym window) (have one.queue q.object q.of q.stands content)),
+      due_windows front s on time have later all.1,
+    )
 
 step_flips : (front : List Item) (old new : State) (entry : Entry) → HaveWindows front old.objects → Kind 0 0 old new entry.call entry.reply → InWindows front (flips_told entry.reply)
 step_flips front old new entry have (IsQuiet p) = subst (InWindows front) (sym p.calm.tells) tt

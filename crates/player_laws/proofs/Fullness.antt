@@ -1,5 +1,5 @@
 -- Only a create can find the table full, and it does so only where there is no room.
-use Rattle.std.proofs.Common.{◌≡◌, inl, inr, ◌≤◌, ◌<◌, ℕ, zero, suc, ◌+◌, ◌==◌, nat_le, nat_lt, Bool, true, false, not, ◌&&◌, ◌||◌, if◌then◌else◌, List, [], ◌∷◌, length, Option, Some, None, Ok, Err, MatchOption, refl, ap, sym, ◌∙◌, subst, arith}
+use Rattle.std.proofs.Common.{◌≡◌, inl, inr, ◌<◌, ℕ, ◌+◌, ◌==◌, nat_le, nat_lt, Bool, true, false, not, ◌&&◌, ◌||◌, if◌then◌else◌, List, [], ◌∷◌, length, Option, Some, None, Ok, Err, MatchOption, refl, ap, sym, ◌∙◌, arith}
 use Rattle.std.proofs.lemmas.Bool.{false≢true, ne_eqb}
 use Rattle.std.specs.List.{position}
 use Rattle.std.specs.Option.{ok_or}
@@ -24,7 +24,7 @@ use Rattle.driver_model.specs.Refusals.{Looked, ◌>>=◌, ◌>>◌, first_handl
 use Rattle.driver_model.specs.Renders.{Counts, Decodes, Rendering, info_taken, is_of_other_size, is_own_reference, reference, references, render, rendering, units_counted}
 use Rattle.driver_model.specs.Sizes.{is_profile, is_rgba_format, is_same_size, is_within_limits, is_ycbcr_format, pixel_bytes, sample_bytes, size_for, size_of_sides}
 use Rattle.driver_model.specs.States.{State, Found, is_preempted, named}
-use Rattle.driver_model.specs.Steps.{Does, Step}
+use Rattle.driver_model.specs.Steps.{Does}
 use Rattle.driver_model.specs.Surfaces as surfaces
 use Rattle.driver_model.specs.Wishes.{first_wish, first_wish_from, wish_holds}
 use Rattle.driver_model.specs.declared.calls.Call.{Call}
@@ -213,7 +213,6 @@ module _ (s : State) where
     new_queue device less = on_device device _ (λ on. place (live_queues s == MAX_QUEUES) on.place (ne_eqb (live_queues s) MAX_QUEUES (λ same. omega (arith, same, less))))
 
 -- ---- replies
-
 
 module _ (old new : State) (caller : List ℕ) (reply : Reply) where
   ok : (a : _) → reply ≡ Ok a → is_out_of_handles reply ≡ false

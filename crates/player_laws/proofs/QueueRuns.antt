@@ -1,5 +1,5 @@
 -- The flips on a queue through a whole history.
-use Rattle.std.proofs.Common.{◌≡◌, ◌≢◌, ◌⊎◌, inl, inr, ℕ, zero, suc, ◌+◌, ◌==◌, ◌<◌, ◌≤◌, not, ◌||◌, Bool, true, false, if◌then◌else◌, List, [], ◌∷◌, ◌++◌, AllPairs, filter, filter_map, flat_map, map, slice_get, Option, Some, None, refl, ap, sym, ◌∙◌, subst, arith}
+use Rattle.std.proofs.Common.{◌≡◌, inl, inr, ℕ, ◌==◌, ◌<◌, not, ◌||◌, Bool, true, false, if◌then◌else◌, List, [], ◌∷◌, ◌++◌, filter, flat_map, map, Option, Some, None, refl, ap, sym, ◌∙◌, subst}
 use Rattle.std.proofs.lemmas.Bool.{false≢true}
 use Rattle.std.proofs.lemmas.List.{append_assoc, append-nil, map-append}
 use Rattle.std.proofs.lemmas.List.Elements.{filter-append}
@@ -11,8 +11,6 @@ use Rattle.driver_model.specs.FlipText.{flips_in}
 use Rattle.driver_model.specs.Histories.{Happens, IsStateOf, Leads}
 use Rattle.driver_model.specs.Objects.{Object, PresentationQueue, as_queue}
 use Rattle.driver_model.specs.States.{State, Found, empty_state, name_at, named}
-use Rattle.driver_model.specs.declared.calls.Call.TheVariants as call
-use Rattle.driver_model.specs.declared.items.Entry.{Entry}
 use Rattle.driver_model.specs.declared.items.Item.{Item}
 use Rattle.driver_model.specs.declared.items.Item.TheVariants.{Called, Ended}
 use Rattle.driver_model.specs.declared.replies.Flipped.{Flipped}
@@ -21,7 +19,7 @@ use Rattle.driver_model.proofs.Named.{named-Some}
 use Rattle.driver_model.proofs.SoundChanges.{nothing_there}
 use Rattle.player_laws.specs.Displays.{AreAsked, DisplaysAreFlipped, IsMadeIn, KeepsTime, asked_by, entries_told, flips_on, is_of, is_on, tick_made, ticks_made, times_asked, was_ticked}
 use Rattle.player_laws.proofs.QueueSteps.{step_kind}
-use Rattle.player_laws.proofs.QueueStands.{AreLate, Here, Missing, Standing, Stepped, Waits, any_step, found_value, late_append, late_not_of, rises_end, ticked_on, times_of}
+use Rattle.player_laws.proofs.QueueStands.{AreLate, Standing, Stepped, Waits, any_step, found_value, late_not_of, rises_end, ticked_on, times_of}
 use Rattle.player_laws.proofs.QueueTicks.{all_parts}
 use Rattle.player_laws.proofs.States.{leads_on, names_apart, state_sane}
 
@@ -76,20 +74,20 @@ module _ (history : List Item) (device queue : ℕ) (clock : List ℕ) (all : Li
       let same : h.0.objects ≡ t.objects = ap (λ (u : State). u.objects) (sym h.2) in
       let kind = step_kind queue device s h.0 entry.caller entry.reply entry.call h.1 in
       let one = any_step queue device s h.0 entry.caller entry.call entry.reply (state_sane front s state) (names_apart front s state) h.1 ticks waiting (record {
-      on_device = keeps.on_device s entry made;
-      queue_stays = keeps.queue_stays s entry made;
-      device_stays = keeps.device_stays s entry made;
-      no_puts = λ surface bytes e. keeps.no_puts s entry surface bytes made e;
-      idle = λ mixer structure video output on e ok found. keeps.idle s entry mixer structure video output on made e ok found;
-      next = λ time e.
-      let whole : clock ≡ ticks ++ (time ∷ rest) = clock_is ∙ ap (λ o. ticks ++ cons_option o rest) e in
-      record {
-      promised = keeps.promised s entry time made e;
-      later = rest;
-      rises = subst Rises whole keeps.rises;
-      in_clock = subst (λ c. AllByRecursion (λ (flip : Flipped). is_of c flip.time ≡ true) waiting) whole in_clock;
-      };
-      rising = rises_front waiting others rising;
+        on_device = keeps.on_device s entry made;
+        queue_stays = keeps.queue_stays s entry made;
+        device_stays = keeps.device_stays s entry made;
+        no_puts = λ surface bytes e. keeps.no_puts s entry surface bytes made e;
+        idle = λ mixer structure video output on e ok found. keeps.idle s entry mixer structure video output on made e ok found;
+        next = λ time e.
+            let whole : clock ≡ ticks ++ (time ∷ rest) = clock_is ∙ ap (λ o. ticks ++ cons_option o rest) e in
+            record {
+              promised = keeps.promised s entry time made e;
+              later = rest;
+              rises = subst Rises whole keeps.rises;
+              in_clock = subst (λ c. AllByRecursion (λ (flip : Flipped). is_of c flip.time ≡ true) waiting) whole in_clock;
+            };
+        rising = rises_front waiting others rising;
       }) kind standing late in
       subst (λ l. Stepped queue device l (asked_by s queue (Called entry)) (tick_made device (Called entry)) (flips_in (Called entry)) ticks waiting) same one
     where

@@ -1,6 +1,6 @@
 -- How a queue stands at each moment: its entries are what was asked for and not shown yet.
-use Rattle.std.proofs.Common.{◌≡◌, ◌≢◌, ◌⊎◌, inl, inr, ℕ, zero, suc, ◌+◌, ◌==◌, ◌≤◌, ◌<◌, max, nat_le, Bool, true, false, not, ◌&&◌, ◌||◌, if◌then◌else◌, List, [], ◌∷◌, ◌++◌, AllPairs, drop, filter, filter_map, map, slice_get, Option, Some, None, Ok, Err, refl, ap, sym, ◌∙◌, subst, arith}
-use Rattle.std.proofs.lemmas.Bool.{cases_eq, eq-eqb, eqb-true, false≢true, leb-true, ne_eqb, or_cases}
+use Rattle.std.proofs.Common.{◌≡◌, ◌≢◌, ◌⊎◌, inl, inr, ℕ, zero, suc, ◌==◌, ◌≤◌, ◌<◌, max, nat_le, Bool, true, false, ◌&&◌, ◌||◌, if◌then◌else◌, List, [], ◌∷◌, ◌++◌, AllPairs, drop, filter, filter_map, map, slice_get, Option, Some, None, Ok, refl, ap, sym, ◌∙◌, subst, arith}
+use Rattle.std.proofs.lemmas.Bool.{cases_eq, eq-eqb, eqb-true, false≢true, leb-true, ne_eqb}
 use Rattle.std.proofs.lemmas.Bool.Decides.{nat_tests}
 use Rattle.std.proofs.lemmas.List.{append-nil}
 use Rattle.std.proofs.lemmas.List.Folds.{list_any-append}
@@ -8,16 +8,14 @@ use Rattle.std.specs.List.{AllByRecursion, AllZip, cons_option, list_any}
 use Rattle.std.specs.Option.{option_and_then, option_map, option_map_or, option_to_list, unwrap_or}
 use Rattle.std.specs.Result.{is_ok}
 use Rattle.cb_types.specs.SizeMbs.{luma_height, luma_width}
-use Rattle.cb_types.specs.declared.size.SizeMbs.{SizeMbs}
-use Rattle.present_queue.specs.Queue.{Names, Queue, Queued, displayed, due, first_due, promised, ticked_by}
+use Rattle.present_queue.specs.Queue.{Queue, Queued, displayed, due, first_due, promised, ticked_by}
 use Rattle.script_ticks.specs.Ticks.{Rises}
 use Rattle.driver_model.specs.Answers.{Reply}
-use Rattle.driver_model.specs.Clock.{Due, all_due, all_shown, destroyed_on, flip_of, let_go, no_output, ticked_at}
+use Rattle.driver_model.specs.Clock.{Due, all_due, all_shown, destroyed_on, flip_of, let_go, no_output}
 use Rattle.driver_model.specs.FlipText.{flips_told}
 use Rattle.driver_model.specs.Objects.{Content, DeviceObject, VideoObject, OutputObject, DecoderObject, MixerObject, QueueObject, Device, OutputSurface, PresentationQueue, Object, as_device, as_output, as_queue, kind_number}
 use Rattle.driver_model.specs.Parts.{first_name, is_first, name_given}
 use Rattle.driver_model.specs.Presented.{is_idle_at, queue_in}
-use Rattle.driver_model.specs.Queues.{emptied}
 use Rattle.driver_model.specs.States.{State, Found, changed_at, content_at, name_at, named, with_content}
 use Rattle.driver_model.specs.Steps.{Step}
 use Rattle.driver_model.specs.declared.calls.Call.{Call}
@@ -27,18 +25,18 @@ use Rattle.driver_model.specs.declared.replies.Answer.TheVariants.{Done}
 use Rattle.driver_model.specs.declared.replies.Flipped.{Flipped}
 use Rattle.driver_model.proofs.Changes.{names}
 use Rattle.driver_model.proofs.Leading.{has_entry, idle_surfaces_are_not_named}
-use Rattle.driver_model.proofs.Named.{IsNamed, found_of, named-Some, named-is, object_is}
+use Rattle.driver_model.proofs.Named.{named-Some, object_is}
 use Rattle.driver_model.proofs.OwedPlaces.{changed_here}
 use Rattle.driver_model.proofs.PartCalls.{step_effect}
 use Rattle.driver_model.proofs.PartCreates.{get-last}
 use Rattle.driver_model.proofs.PartEffects.{Effect}
 use Rattle.driver_model.proofs.PartNames.{IsAt, place_of_name}
 use Rattle.driver_model.proofs.PartOwned.{IsSane, get_more, get_still}
-use Rattle.driver_model.proofs.PartStill.{is_queue-kind, still_back}
+use Rattle.driver_model.proofs.PartStill.{still_back}
 use Rattle.driver_model.proofs.SoundChanges.{nothing_there}
 use Rattle.player_laws.specs.Displays.{IsPromisedPast, asked_in, flip_asked, flips_asked, is_of, is_on, tick_in, window_of}
-use Rattle.player_laws.proofs.QueueSteps.{AllKept, Displays, DeviceEnds, IsDeviceEnd, IsDisplay, IsGrown, IsPromise, IsQueueEnd, IsQuiet, IsTick, IsWrite, Grows, IsMix, IsPut, Kept, Kind, Promises, Quiet, QueueEnds, Ticks, Writes, changed_other, kept_changed, kept_same}
-use Rattle.player_laws.proofs.QueueTicks.{Stays, all_parts, all_stays, all_weaker, entry_due, flips_of_queue, no_flips, queue_ticks}
+use Rattle.player_laws.proofs.QueueSteps.{AllKept, Displays, DeviceEnds, IsDeviceEnd, IsDisplay, IsGrown, IsPromise, IsQueueEnd, IsQuiet, IsTick, IsWrite, Grows, IsMix, IsPut, Kind, Promises, Quiet, QueueEnds, Ticks, Writes, changed_other, kept_changed, kept_same}
+use Rattle.player_laws.proofs.QueueTicks.{all_stays, entry_due, flips_of_queue, no_flips, queue_ticks}
 
 -- ---- names
 
@@ -94,9 +92,10 @@ module _ (queue : ℕ) where
   all_still old new window [] [] keeps w = tt
   all_still old new window [] (flip ∷ flips) keeps w = absurd w
   all_still old new window (entry ∷ entries) [] keeps w = absurd w
-  all_still old new window (entry ∷ entries) (flip ∷ flips) keeps w =
-      (waits_still old new window entry flip (keeps entry (here entry.surface (list_any (λ other. other.surface == entry.surface) entries))) w.0,
-      all_still old new window entries flips (λ other is. keeps other (behind (entry.surface == other.surface) (list_any (λ x. x.surface == other.surface) entries) is)) w.1)
+  all_still old new window (entry ∷ entries) (flip ∷ flips) keeps w = (
+    waits_still old new window entry flip (keeps entry (here entry.surface (list_any (λ other. other.surface == entry.surface) entries))) w.0,
+    all_still old new window entries flips (λ other is. keeps other (behind (entry.surface == other.surface) (list_any (λ x. x.surface == other.surface) entries) is)) w.1,
+  )
     where
       here : (n : ℕ) (b : Bool) → ((n == n) || b) ≡ true
       here n b = let e : n ≡ n = refl in ap (λ t. t || b) (eq-eqb n n e)
@@ -431,18 +430,18 @@ module _ (queue device : ℕ) (old new : State) (caller : List ℕ) (asked : Cal
         let first_is : is_first device asked ≡ (root.name == device) = ap (λ (o : Option ℕ). option_map_or (λ n. n == device) o false) first in
         let asks : is_first device asked ≡ true = on_device (p.gives ∙ ap (λ n. Some n) named) in
         let whole : Here queue device (old.objects ++ p.one ∷ []) [] [] = record {
-        place = _;
-        object = p.one;
-        stands = get-last old.objects p.one;
-        named = named;
-        live = live;
-        of = record { window = window; queue = record { entries = []; visible = None; promise = 0 } };
-        content = content;
-        root = root;
-        root_stands = get_still old.objects p.one p.one.device root stands;
-        root_named = eqb-true root.name device (sym first_is ∙ asks);
-        waits = tt;
-        promised = tt;
+          place = _;
+          object = p.one;
+          stands = get-last old.objects p.one;
+          named = named;
+          live = live;
+          of = record { window = window; queue = record { entries = []; visible = None; promise = 0 } };
+          content = content;
+          root = root;
+          root_stands = get_still old.objects p.one p.one.device root stands;
+          root_named = eqb-true root.name device (sym first_is ∙ asks);
+          waits = tt;
+          promised = tt;
         } in
         subst (λ l. Here queue device l ticks waiting) (sym lists) (subst (λ t. Here queue device (old.objects ++ p.one ∷ []) t waiting) (sym m.no_ticks) (subst (λ w. Here queue device (old.objects ++ p.one ∷ []) [] w) (sym m.no_flips) whole))
 
@@ -527,24 +526,25 @@ module _ (queue device : ℕ) (old new : State) (caller : List ℕ) (asked : Cal
       let pixels = changed_pixels on.place change is.0 is.1 (queue_no_output is.0.content on.value is.2.is_kind) lists in
       let root = by_place lists (cases_eq on.place h.object.device) in
       let u : Untouched h.place h.object h.root h.of.queue.entries = record {
-      object = change h.object;
-      stands = ap (λ l. slice_get l h.place) lists ∙ changed_here change on.place h.place old.objects h.object own.0 h.stands;
-      name = refl;
-      same_device = refl;
-      live = refl;
-      root = root.0;
-      root_stands = root.1;
-      root_name = root.2;
-      pixels = λ entry k. pixels entry.surface;
+        object = change h.object;
+        stands = ap (λ l. slice_get l h.place) lists ∙ changed_here change on.place h.place old.objects h.object own.0 h.stands;
+        name = refl;
+        same_device = refl;
+        live = refl;
+        root = root.0;
+        root_stands = root.1;
+        root_name = root.2;
+        pixels = λ entry k. pixels entry.surface;
       } in
       stands_with ticks more waiting left h u (record on.value { queue = now }) refl (waits pixels (still_waits ticks waiting h u)) promised
     where
       by_place : new.objects ≡ changed_at on.place (λ object. record object { content = QueueObject (record on.value { queue = now }) }) old.objects → (on.place ≡ h.object.device) ⊎ (on.place ≢ h.object.device)
           → (root : Object) × (slice_get new.objects h.object.device ≡ Some root) × (root.name ≡ h.root.name)
-      by_place lists (inl same) =
-          (record (h.root) { content = QueueObject (record on.value { queue = now }) },
-          ap (λ l. slice_get l h.object.device) lists ∙ changed_here (λ object. record object { content = QueueObject (record on.value { queue = now }) }) on.place h.object.device old.objects h.root same h.root_stands,
-          refl)
+      by_place lists (inl same) = (
+        record (h.root) { content = QueueObject (record on.value { queue = now }) },
+        ap (λ l. slice_get l h.object.device) lists ∙ changed_here (λ object. record object { content = QueueObject (record on.value { queue = now }) }) on.place h.object.device old.objects h.root same h.root_stands,
+        refl,
+      )
       by_place lists (inr away) =
           (h.root, ap (λ l. slice_get l h.object.device) lists ∙ (changed_other (λ object. record object { content = QueueObject (record on.value { queue = now }) }) on.place h.object.device old.objects away ∙ h.root_stands), refl)
 
@@ -617,11 +617,11 @@ module _ (queue device : ℕ) (old new : State) (caller : List ℕ) (asked : Cal
           let old_waits : AllZip (Waits queue new.objects p.on.value.window) p.on.value.queue.entries waiting = subst (λ (q : PresentationQueue). AllZip (Waits queue new.objects q.window) q.queue.entries waiting) (sym own.1) waits in
           let now = pixels p.of.place of.0 p.of.value of.1 (content_output of.0.content p.of.value of.2.is_kind) in
           let new_wait : Waits queue new.objects p.on.value.window entry flip = record {
-          surface = now.0;
-          stands = now.1;
-          of = now.3;
-          content = now.4;
-          is = flip_same queue p.on.value.window p.surface now.0.name p.earliest p.of.value now.3 (now.2 ∙ of.2.has_name) now.5 now.6 now.7;
+            surface = now.0;
+            stands = now.1;
+            of = now.3;
+            content = now.4;
+            is = flip_same queue p.on.value.window p.surface now.0.name p.earliest p.of.value now.3 (now.2 ∙ of.2.has_name) now.5 now.6 now.7;
           } in
           zip_push (Waits queue new.objects p.on.value.window) p.on.value.queue.entries waiting entry flip old_waits new_wait)
           (subst (λ (q : PresentationQueue). AllByRecursion (λ t. t < q.queue.promise) ticks) (sym own.1) h.promised) in
@@ -663,24 +663,24 @@ module _ (queue device : ℕ) (old new : State) (caller : List ℕ) (asked : Cal
           let apart_test : (h.object.device == p.on.place) ≡ false = ne_eqb h.object.device p.on.place other in
           let same : destroyed_on p.on.place h.object ≡ h.object = ap (λ b. if b then record (h.object) { is_live = false; content = let_go h.object.content } else h.object) apart_test in
           let u : Untouched h.place h.object h.root h.of.queue.entries = record {
-          object = h.object;
-          stands = ap (λ l. slice_get l h.place) lists ∙ (mapped old.objects h.place h.object h.stands ∙ ap (λ o. Some o) same);
-          name = refl;
-          same_device = refl;
-          live = refl;
-          root = destroyed_on p.on.place h.root;
-          root_stands = ap (λ l. slice_get l h.object.device) lists ∙ mapped old.objects h.object.device h.root h.root_stands;
-          root_name = kept_name (h.root.device == p.on.place) h.root;
-          pixels = λ entry k a of e output. (
-          destroyed_on p.on.place a,
-          ap (λ l. slice_get l entry.surface) lists ∙ mapped old.objects entry.surface a e,
-          kept_name (a.device == p.on.place) a,
-          of,
-          kept_output (a.device == p.on.place) a of output,
-          refl,
-          refl,
-          refl,
-          );
+            object = h.object;
+            stands = ap (λ l. slice_get l h.place) lists ∙ (mapped old.objects h.place h.object h.stands ∙ ap (λ o. Some o) same);
+            name = refl;
+            same_device = refl;
+            live = refl;
+            root = destroyed_on p.on.place h.root;
+            root_stands = ap (λ l. slice_get l h.object.device) lists ∙ mapped old.objects h.object.device h.root h.root_stands;
+            root_name = kept_name (h.root.device == p.on.place) h.root;
+            pixels = λ entry k a of e output. (
+              destroyed_on p.on.place a,
+              ap (λ l. slice_get l entry.surface) lists ∙ mapped old.objects entry.surface a e,
+              kept_name (a.device == p.on.place) a,
+              of,
+              kept_output (a.device == p.on.place) a of output,
+              refl,
+              refl,
+              refl,
+            );
           } in
           inr (stands_with ticks ticks waiting waiting h u h.of h.content (still_waits ticks waiting h u) h.promised)
 
@@ -799,18 +799,20 @@ module _ (queue device : ℕ) (old new : State) (caller : List ℕ) (asked : Cal
         let q = b.2.queue h.of h.content in
         let t = queue_ticks p.on.place p.time h.place old.objects timed h.object b.0 h.of h.stands h.content b.1 q.0 in
         let k = kept h.object.device h.root h.root_stands in
-        let r = all_stays p.time (all_due old p.on.place p.time) h.object.device timed k.0 k.1 in
-        (record {
-          object = t.0;
-          stands = ap (λ l. slice_get l h.place) lists ∙ t.1;
-          name = t.2.name ∙ b.2.name;
-          same_device = t.2.device ∙ b.2.device;
-          live = t.2.live ∙ q.1;
-          root = r.0;
-          root_stands = ap (λ l. slice_get l h.object.device) lists ∙ r.1;
-          root_name = r.2.name ∙ k.2.name;
-          pixels = λ entry e. pixels entry.surface;
-        }, t.3)
+        let r = all_stays p.time (all_due old p.on.place p.time) h.object.device timed k.0 k.1 in (
+          record {
+            object = t.0;
+            stands = ap (λ l. slice_get l h.place) lists ∙ t.1;
+            name = t.2.name ∙ b.2.name;
+            same_device = t.2.device ∙ b.2.device;
+            live = t.2.live ∙ q.1;
+            root = r.0;
+            root_stands = ap (λ l. slice_get l h.object.device) lists ∙ r.1;
+            root_name = r.2.name ∙ k.2.name;
+            pixels = λ entry e. pixels entry.surface;
+          },
+          t.3,
+        )
 
     flips_are : (h : Here queue device old.objects ticks waiting) → filter (is_on queue) (flips_told reply) ≡ map (flip_of old p.time) (option_to_list (option_map {U = Due} (λ x. record { queue = h.place; surface = x.surface }) (entry_due p.on.place p.time h.object h.of)))
     flips_are h = ap (filter (is_on queue)) told ∙ flips_of_queue queue old p.on.place p.time h.place h.object h.of (is_at queue old.objects apart h.place h.object h.stands h.named) h.stands h.named h.content

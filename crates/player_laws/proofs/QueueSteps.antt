@@ -1,22 +1,22 @@
 -- What each call does to queues and to the pixels of surfaces.
-use Rattle.std.proofs.Common.{◌≡◌, ◌≢◌, ◌⊎◌, inl, inr, ℕ, zero, suc, ◌==◌, ◌≤◌, nat_lt, Bool, true, false, ◌&&◌, if◌then◌else◌, List, [], ◌∷◌, ◌++◌, length, map, slice_get, Option, Some, None, Ok, Err, MatchOption, refl, ap, sym, ◌∙◌, subst, arith}
-use Rattle.std.proofs.lemmas.Bool.{cases_eq, false≢true}
+use Rattle.std.proofs.Common.{◌≡◌, ◌≢◌, ◌⊎◌, inl, inr, ℕ, zero, suc, ◌==◌, ◌≤◌, nat_lt, Bool, true, false, if◌then◌else◌, List, [], ◌∷◌, length, map, slice_get, Option, Some, None, Ok, Err, MatchOption, refl, ap, sym, ◌∙◌, subst, arith}
+use Rattle.std.proofs.lemmas.Bool.{cases_eq}
 use Rattle.std.proofs.lemmas.Bool.Decides.{nat_tests}
 use Rattle.std.specs.Option.{ok_or}
 use Rattle.cb_types.specs.declared.picture_info.PictureInfo.{PictureInfo}
 use Rattle.decoder_render.specs.declared.outcome.Outcome.{Outcome}
 use Rattle.decoder_render.specs.declared.outcome.Outcome.TheVariants as outcome
-use Rattle.present_queue.specs.Queue.{Queue, Queued, answer_to_display, displayed, empty_queue, promised}
+use Rattle.present_queue.specs.Queue.{Queue, answer_to_display, displayed, promised}
 use Rattle.vd_plane.specs.declared.picture.Picture.{Picture}
 use Rattle.vd_status.specs.declared.refusal.Refusal.{Refusal}
 use Rattle.vd_status.specs.declared.refusal.Refusal.TheVariants.{EarlierThanPromise, InvalidHandle, OutOfMemory, QueueFull}
 use Rattle.driver_model.specs.Answers.{Goes, Leaves, Reply, Tells}
 use Rattle.driver_model.specs.Clock as clock
-use Rattle.driver_model.specs.Creates.{Creates, IsNewVideo, decoder_create, device_create, live_queues, mixer_create, new_decoder, new_device, new_mixer, new_output, new_queue, output_create, queue_create, video_create}
+use Rattle.driver_model.specs.Creates.{Creates, IsNewVideo, decoder_create, device_create, mixer_create, new_queue, output_create, queue_create, video_create}
 use Rattle.driver_model.specs.FlipText.{flips_told}
 use Rattle.driver_model.specs.Jobs.{reply_of}
-use Rattle.driver_model.specs.Mixes.{Mixes, Mixing, mix}
-use Rattle.driver_model.specs.Objects.{Content, DeviceObject, VideoObject, OutputObject, DecoderObject, MixerObject, QueueObject, Device, VideoSurface, OutputSurface, PresentationQueue, Object, as_decoder, as_device, as_mixer, as_output, as_queue, as_video}
+use Rattle.driver_model.specs.Mixes.{Mixes, mix}
+use Rattle.driver_model.specs.Objects.{Content, DeviceObject, VideoObject, OutputObject, QueueObject, Device, VideoSurface, OutputSurface, PresentationQueue, Object, as_decoder, as_device, as_mixer, as_output, as_queue, as_video}
 use Rattle.driver_model.specs.Parts.{first_name, name_given}
 use Rattle.driver_model.specs.Queues as queues
 use Rattle.driver_model.specs.Queues.{QueueAndSurface}
@@ -30,12 +30,10 @@ use Rattle.driver_model.specs.declared.calls.Call.{Call}
 use Rattle.driver_model.specs.declared.calls.Call.TheVariants as call
 use Rattle.driver_model.specs.declared.replies.Answer.{Answer}
 use Rattle.driver_model.specs.declared.replies.Answer.TheVariants.{Done, Flips, Holds, Name}
-use Rattle.driver_model.specs.declared.replies.Flipped.{Flipped}
 use Rattle.driver_model.proofs.Looks.{err_not_ok, first_handle-Ok, ok_is, then_ok, unless_ok}
 use Rattle.driver_model.proofs.Named.{object_is, named-Some}
 use Rattle.driver_model.proofs.OwedPlaces.{changed_here}
 use Rattle.driver_model.proofs.PartFirsts.{advance_named, mix_named, output_bits_named, queue_made, render_named, video_bits_named}
-use Rattle.driver_model.proofs.SoundChanges.{nothing_there}
 use Rattle.driver_model.proofs.SoundLooks.{Stands, first_stands, further-Ok, named_stands}
 use Rattle.player_laws.specs.Displays.{asked_in, tick_in}
 

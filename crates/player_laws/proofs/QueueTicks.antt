@@ -1,13 +1,13 @@
 -- What a tick does to one queue, and which flips it makes on it.
-use Rattle.std.proofs.Common.{◌≡◌, ◌≢◌, ◌⊎◌, inl, inr, ℕ, zero, suc, ◌+◌, ◌==◌, ◌≤◌, ◌<◌, Bool, true, false, ◌&&◌, if◌then◌else◌, List, [], ◌∷◌, ◌++◌, filter, filter_map, map, slice_get, Option, Some, None, refl, ap, sym, ◌∙◌, subst, arith}
-use Rattle.std.proofs.lemmas.Bool.{cases_eq, eq-eqb, false≢true, ne_eqb}
+use Rattle.std.proofs.Common.{◌≡◌, ◌≢◌, ◌⊎◌, inl, inr, ℕ, zero, suc, ◌+◌, ◌==◌, ◌≤◌, Bool, true, false, ◌&&◌, if◌then◌else◌, List, [], ◌∷◌, ◌++◌, filter, filter_map, map, slice_get, Option, Some, None, refl, ap, sym, ◌∙◌, subst, arith}
+use Rattle.std.proofs.lemmas.Bool.{cases_eq, eq-eqb, ne_eqb}
 use Rattle.std.proofs.lemmas.List.{append_assoc, map-append}
 use Rattle.std.proofs.lemmas.List.Elements.{filter-append}
 use Rattle.std.specs.List.{AllByRecursion, cons_option, enumerate_from}
 use Rattle.std.specs.Option.{option_and_then, option_map, option_map_or, option_to_list}
-use Rattle.present_queue.specs.Queue.{Queue, Queued, due, first_due, ticked_by}
+use Rattle.present_queue.specs.Queue.{Queued, due, ticked_by}
 use Rattle.driver_model.specs.Clock.{Due, all_due, all_shown, due_at, due_in, flip_of, shown, with_flip, with_tick}
-use Rattle.driver_model.specs.Objects.{Content, DeviceObject, VideoObject, OutputObject, DecoderObject, MixerObject, QueueObject, OutputSurface, PresentationQueue, Object, as_queue}
+use Rattle.driver_model.specs.Objects.{OutputObject, QueueObject, OutputSurface, PresentationQueue, Object, as_queue}
 use Rattle.driver_model.specs.States.{State, changed_at, name_at}
 use Rattle.driver_model.specs.declared.replies.Flipped.{Flipped}
 use Rattle.driver_model.proofs.Named.{object_is}
@@ -15,7 +15,7 @@ use Rattle.driver_model.proofs.OwedPlaces.{changed_here}
 use Rattle.driver_model.proofs.PartNames.{IsAt}
 use Rattle.driver_model.proofs.SoundChanges.{nothing_there}
 use Rattle.player_laws.specs.Displays.{is_on}
-use Rattle.player_laws.proofs.QueueSteps.{Kept, changed_other, kept_same, kept_then}
+use Rattle.player_laws.proofs.QueueSteps.{changed_other}
 
 -- ---- lists
 

@@ -1,28 +1,25 @@
 -- How many objects live, and how many names were given.
-use Rattle.std.proofs.Common.{◌≡◌, ◌≢◌, ◌⊎◌, inl, inr, ℕ, zero, suc, ◌+◌, ◌*◌, ◌≤◌, ◌<◌, ◌==◌, ◌&&◌, ◌||◌, Bool, true, false, cond, List, [], ◌∷◌, ◌++◌, filter_map, length, map, slice_get, Option, Some, None, refl, ap, sym, ◌∙◌, subst, arith}
+use Rattle.std.proofs.Common.{◌≡◌, inl, inr, ℕ, zero, suc, ◌+◌, ◌≤◌, ◌<◌, ◌==◌, ◌&&◌, ◌||◌, Bool, true, false, cond, List, [], ◌∷◌, ◌++◌, filter_map, length, slice_get, Option, Some, None, refl, ap, sym, ◌∙◌, subst, arith}
 use Rattle.std.proofs.lemmas.Bool.{and_parts, eq-eqb, eqb-true, false≢true}
 use Rattle.std.proofs.lemmas.List.{length-map}
 use Rattle.std.proofs.lemmas.List.Sums.{sum_by-cons, sum_by_push}
 use Rattle.std.specs.List.{AllByRecursion, count_by, list_any, sum_by}
-use Rattle.std.specs.Option.{is_some, option_map_or}
+use Rattle.std.specs.Option.{option_map_or}
 use Rattle.device_lock.specs.Lists.{same}
 use Rattle.device_lock.specs.Numbers.{items_of}
-use Rattle.device_lock.proofs.Callers.{same_is}
 use Rattle.handle_table.specs.Name.{kind_of}
 use Rattle.driver_model.specs.Answers.{Reply}
 use Rattle.driver_model.specs.Creates.{live_devices, live_objects, live_queues}
 use Rattle.driver_model.specs.Histories.{Happens, IsStateOf, Leads}
-use Rattle.driver_model.specs.Objects.{Object, as_device, as_queue, kind_number}
-use Rattle.driver_model.specs.Parts.{given_by, is_among, is_out_of_handles, name_given}
+use Rattle.driver_model.specs.Objects.{Object, kind_number}
+use Rattle.driver_model.specs.Parts.{given_by, is_among, name_given}
 use Rattle.driver_model.specs.Passes.{caller_of}
 use Rattle.driver_model.specs.States.{State, empty_state}
 use Rattle.driver_model.specs.Steps.{Step}
-use Rattle.driver_model.specs.declared.calls.Call.{Call}
-use Rattle.driver_model.specs.declared.calls.Call.TheVariants as call
 use Rattle.driver_model.specs.declared.items.Entry.{Entry}
 use Rattle.driver_model.specs.declared.items.Item.{Item}
 use Rattle.driver_model.specs.declared.items.Item.TheVariants.{Called, Ended}
-use Rattle.driver_model.specs.declared.numbers.TheConstants.{DEVICE, MANY_NAMES, MAX_DEVICES, MAX_OBJECTS, MAX_QUEUES, PRESENTATION_QUEUE}
+use Rattle.driver_model.specs.declared.numbers.TheConstants.{DEVICE, MANY_NAMES, MAX_OBJECTS, MAX_QUEUES, PRESENTATION_QUEUE}
 use Rattle.driver_model.proofs.Changes.{names}
 use Rattle.driver_model.proofs.Leading.{names_are_given}
 use Rattle.driver_model.proofs.Named.{object_is}
@@ -32,7 +29,7 @@ use Rattle.driver_model.proofs.PartNames.{place_of_name}
 use Rattle.driver_model.proofs.PartOwned.{IsSane, happens_sane}
 use Rattle.driver_model.proofs.PartStill.{is_device-kind, is_queue-kind, still_count}
 use Rattle.driver_model.proofs.SoundChanges.{nothing_there}
-use Rattle.player_laws.specs.Room.{AreAddedUp, AreMadeBy, CallersAddUp, LiveObjectsOnlyDie, MakesLittle, SixteenCallersFindRoom, added_up, devices_in, given_in, is_live_name, live_made, makes_kind, queues_in}
+use Rattle.player_laws.specs.Room.{AreMadeBy, CallersAddUp, LiveObjectsOnlyDie, MakesLittle, SixteenCallersFindRoom, added_up, devices_in, given_in, is_live_name, live_made, makes_kind, queues_in}
 use Rattle.player_laws.proofs.Counts.{all_counted, counted_names, no_more_names, own_among, spread, sum_at_most, sum_below, weigh, weigh-none}
 use Rattle.player_laws.proofs.Fullness.{creates_find_room}
 use Rattle.player_laws.proofs.States.{leads_on, leads_stays, names_apart, state_sane}

@@ -1,20 +1,18 @@
 -- What a script shows of the first pictures of a stream.
-use Rattle.std.proofs.Common.{◌≡◌, ◌≢◌, ◌⊎◌, inl, inr, ℕ, zero, suc, ◌+◌, ◌*◌, ◌<◌, ◌≤◌, nat_le, nat_lt, ◌==◌, not, Bool, true, false, cond, if◌then◌else◌, List, [], ◌∷◌, ◌++◌, filter_map, length, map, take, Option, Some, None, refl, ap, sym, ◌∙◌, subst, arith}
+use Rattle.std.proofs.Common.{◌≡◌, ◌⊎◌, inl, inr, ℕ, zero, suc, ◌+◌, ◌*◌, ◌<◌, ◌≤◌, nat_le, nat_lt, ◌==◌, not, Bool, true, false, cond, if◌then◌else◌, List, [], ◌∷◌, ◌++◌, filter_map, length, map, take, Option, Some, None, refl, ap, sym, ◌∙◌, subst, arith}
 use Rattle.std.proofs.Math.Nat.{mul-le-mul_right}
-use Rattle.std.proofs.lemmas.Bool.{eqb-false, false≢true, leb-true}
+use Rattle.std.proofs.lemmas.Bool.{eqb-false}
 use Rattle.std.proofs.lemmas.Bool.Decides.{nat_tests}
-use Rattle.std.proofs.lemmas.List.{map-append}
 use Rattle.std.proofs.lemmas.List.Sums.{take_while-cons}
-use Rattle.std.specs.List.{AllByRecursion, position, position_or_len, take_while}
+use Rattle.std.specs.List.{AllByRecursion, position, position_or_len}
 use Rattle.std.specs.Option.{option_map, option_map_or, option_or}
-use Rattle.clock_script.specs.Script.{IsLegal, is_preemption_of}
+use Rattle.clock_script.specs.Script.{is_preemption_of}
 use Rattle.clock_script.specs.declared.script.ScriptLine.{ScriptLine}
 use Rattle.clock_script.specs.declared.script.ScriptLine.TheVariants.{Preempt, Tick}
 use Rattle.script_ticks.specs.Ticks.{Rises, first_tick, tick_time}
 use Rattle.script_ticks.specs.declared.ticks.ScriptTick.{ScriptTick}
 use Rattle.script_ticks.proofs.Searches.{numbered, ticks_rise}
-use Rattle.vd_plane.specs.declared.picture.Picture.{Picture}
-use Rattle.driver_model.specs.ShownPictures.{ShownPicture, before_preemption, is_passed_over, shown_at, shown_from, shown_pictures, tick_from, tick_in_time, tick_of}
+use Rattle.driver_model.specs.ShownPictures.{ShownPicture, before_preemption, is_passed_over, shown_at, shown_from, tick_from, tick_in_time, tick_of}
 use Rattle.player_laws.specs.Shown.{FrontsAreSettled, LastsAreOpen, LatePicturesAreNotShown, LaterPicturesShowLater, ShownTimesRise, TicksAreFound, TicksInTimeAreFound, gives_way, settled_at, settled_from, time_before, time_in}
 
 -- ---- lists

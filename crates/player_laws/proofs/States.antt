@@ -1,12 +1,12 @@
 -- What every state of a legal history has, and how its objects stay through a history.
-use Rattle.std.proofs.Common.{◌≡◌, ◌≢◌, ◌⊎◌, inl, inr, ℕ, ◌==◌, ◌||◌, Bool, true, false, List, [], ◌∷◌, ◌++◌, AllPairs, filter_map, slice_get, Some, refl, ap, sym, ◌∙◌, subst, arith}
+use Rattle.std.proofs.Common.{◌≡◌, ◌≢◌, inl, inr, ℕ, ◌==◌, ◌||◌, Bool, true, false, List, [], ◌∷◌, ◌++◌, AllPairs, slice_get, Some, refl, ap, sym, ◌∙◌, subst, arith}
 use Rattle.std.proofs.lemmas.Bool.{eq-eqb, eqb-true}
 use Rattle.handle_table.specs.Name.{kind_of}
 use Rattle.driver_model.specs.Answers.{Reply}
-use Rattle.driver_model.specs.Histories.{Happens, IsLegal, IsStateOf, Leads}
+use Rattle.driver_model.specs.Histories.{Happens, IsStateOf, Leads}
 use Rattle.driver_model.specs.Objects.{Object}
-use Rattle.driver_model.specs.Parts.{given_by, is_among, made_on, names_of}
-use Rattle.driver_model.specs.States.{State, counted, empty_state}
+use Rattle.driver_model.specs.Parts.{names_of}
+use Rattle.driver_model.specs.States.{State, empty_state}
 use Rattle.driver_model.specs.Steps.{Step}
 use Rattle.driver_model.specs.declared.calls.Call.{Call}
 use Rattle.driver_model.specs.declared.items.Item.{Item}
@@ -15,9 +15,9 @@ use Rattle.driver_model.specs.declared.numbers.TheConstants.{DEVICE}
 use Rattle.driver_model.proofs.Changes.{names}
 use Rattle.driver_model.proofs.Leading.{names_are_given, names_are_given_once}
 use Rattle.driver_model.proofs.PartCalls.{step_effect}
-use Rattle.driver_model.proofs.PartEffects.{Changed, Effect, Grown}
+use Rattle.driver_model.proofs.PartEffects.{Effect}
 use Rattle.driver_model.proofs.PartNames.{AreNames, IsAt, leads_names, place_of_name}
-use Rattle.driver_model.proofs.PartOwned.{Extends, IsSane, get_still, happens_sane, leads_extends}
+use Rattle.driver_model.proofs.PartOwned.{IsSane, get_still, happens_sane}
 use Rattle.driver_model.proofs.PartStill.{still_get}
 use Rattle.driver_model.proofs.SoundChanges.{nothing_there}
 use Rattle.player_laws.specs.Devices.{IsStill}

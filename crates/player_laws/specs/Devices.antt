@@ -1,5 +1,5 @@
 -- What calls leave of the objects of devices that they aren't about.
-use Rattle.std.specs.Prelude.{◌≡◌, ◌≢◌, ◌⊎◌, ℕ, true, false, List, ◌++◌, slice_get, Option, Some}
+use Rattle.std.specs.Prelude.{◌≡◌, ◌≢◌, ℕ, true, false, List, ◌++◌, slice_get, Some}
 use Rattle.std.specs.List.{list_any}
 use Rattle.handle_table.specs.Name.{kind_of}
 use Rattle.driver_model.specs.Answers.{Reply}

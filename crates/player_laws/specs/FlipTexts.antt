@@ -1,5 +1,5 @@
 -- The text of flips that are written one after the other.
-use Rattle.std.specs.Prelude.{◌≡◌, ℕ, false, List, [], ◌∷◌, ◌++◌, flat_map}
+use Rattle.std.specs.Prelude.{◌≡◌, false, List, [], ◌∷◌, ◌++◌, flat_map}
 use Rattle.std.specs.List.{AllByRecursion}
 use Rattle.driver_model.specs.FlipText.{StreamFlip, comes_before, flip_text, text_of}
 

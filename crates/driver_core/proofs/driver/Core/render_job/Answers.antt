@@ -2,7 +2,9 @@ use Rattle.std.proofs.Common.{◌≡◌, ◌<◌, length, slice_get, Some, sym, 
 use Rattle.std.proofs.lemmas.List.{length-map}
 use Rattle.std.proofs.lemmas.Option.{slice_get_within}
 use Rattle.recon.specs.References.{pictures_of}
+use Rattle.decoder_render.specs.Submission.{ArePayloads}
 use Rattle.decoder_render.specs.declared.outcome.Outcome.TheVariants as outcome
+use Rattle.vd_plane.specs.Picture.{IsZeros}
 use Rattle.driver_model.specs.States.{free_number, with_content, with_note}
 use Rattle.driver_objects.specs.Contents.{HasVideo}
 use Rattle.driver_objects.specs.Kept.{kept_of}
@@ -43,8 +45,8 @@ returns-clause-ok c =
       count = length-map c.in-Ok.refs.pictures _ ∙ c.in-Ok.ensures.count;
       lent = subst (λ (objects : Objects). AreLent (kept_of objects) c.args.on.now.references (pictures_of c.in-Ok.refs)) c.reserve_job.ensures.objects c.in-Ok.ensures.lent;
       given = c.new.ensures.given;
-      payloads = c.new.ensures.payloads;
-      held = c.new.ensures.picture;
+      units = subst (ArePayloads c.args.bytes.now) (sym c.new.ensures.payloads) c.in-Ok-new.ensures.units;
+      zeros = subst (λ p. IsZeros p c.args.on.now.decoder.size.width c.args.on.now.decoder.size.height) (sym c.new.ensures.picture) c.in-Ok-new.ensures.picture;
       numbered = λ d stands. c.new.ensures.number ∙ (c.note-number.ensures.numbered ∙ ap free_number (numbers_same c.share_references.new.self d (shares.stands d (c.reserve_job.ensures.stands d stands))));
       picture = λ d caller object what stands there has.
           let b = later object there in

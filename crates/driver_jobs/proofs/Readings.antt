@@ -40,9 +40,9 @@ module _ (text : List ℕ) (places : List (ℕ × ℕ)) (broken : Option ℕ) (n
 
   uncut_payload : (IsCut → ⊥) → HasPayload
   uncut_payload whole = elim (allowed_or_not unit (length unit) (omega arith)) [
-      | inl some ↦ (None, inl some)
-      | inr allowed ↦ (Some (payload unit), ((λ spoiled. elim spoiled [ inl some ↦ not_both unit some.0 some.1 allowed | inr cut ↦ whole cut ]), refl))
-    ]
+    | inl some ↦ (None, inl some)
+    | inr allowed ↦ (Some (payload unit), ((λ spoiled. elim spoiled [ inl some ↦ not_both unit some.0 some.1 allowed | inr cut ↦ whole cut ]), refl))
+  ]
 
   last_payload : (b : Bool) → (number + 1 == length places) ≡ b → broken ≢ None → HasPayload
   last_payload true last cut = (None, inr (cut, eqb-true (number + 1) (length places) last))

@@ -32,8 +32,12 @@ loop-place-preserved-in-Nothing c =
       within = omega (arith, rest, taken);
       few = let few = c.loop-place.invariant.few in omega (arith, few);
       stands = stands_on c.push_slice-taken.new.self _ _ (piece_on text i n) (c.push_slice-taken.ensures.stands (take i text) c.loop-place.invariant.stands);
-      settles = (s.0, settles_on _ (take (i + n) text) s.0 s.0 c.push_slice-taken.result.1 found.Nothing (piece_on text i n) c.in-Nothing.is (append-nil s.0)
-          (c.push_slice-taken.ensures.settles (take i text) s.0 c.loop-place.invariant.stands s.1), s.2);
+      settles = (
+        s.0,
+        settles_on _ (take (i + n) text) s.0 s.0 c.push_slice-taken.result.1 found.Nothing (piece_on text i n) c.in-Nothing.is (append-nil s.0)
+            (c.push_slice-taken.ensures.settles (take i text) s.0 c.loop-place.invariant.stands s.1),
+        s.2,
+      );
     }
 
 pub loop-place-preserved : goal.loop-place-preserved
@@ -51,8 +55,12 @@ loop-place-preserved c =
       within = omega (arith, rest, taken);
       few = let few = c.loop-place.invariant.few in omega (arith, few, some);
       stands = stands_on c.push_slice-taken.new.self _ _ (piece_on text i n) (c.push_slice-taken.ensures.stands (take i text) c.loop-place.invariant.stands);
-      settles = (s.0 ++ unit, settles_on _ (take (i + n) text) s.0 (s.0 ++ unit) c.push_slice-taken.result.1 (found.Unit c.in-Unit.start c.in-Unit.end) (piece_on text i n) c.in-Unit.is refl
-          (c.push_slice-taken.ensures.settles (take i text) s.0 c.loop-place.invariant.stands s.1), ap (λ k. k + 1) s.2 ∙ sym (length-append s.0 unit));
+      settles = (
+        s.0 ++ unit,
+        settles_on _ (take (i + n) text) s.0 (s.0 ++ unit) c.push_slice-taken.result.1 (found.Unit c.in-Unit.start c.in-Unit.end) (piece_on text i n) c.in-Unit.is refl
+            (c.push_slice-taken.ensures.settles (take i text) s.0 c.loop-place.invariant.stands s.1),
+        ap (λ k. k + 1) s.2 ∙ sym (length-append s.0 unit),
+      );
     }
 
 pub returns-in-Broken : goal.returns-in-Broken
@@ -74,7 +82,7 @@ overflow_add-result c =
     let within = c.loop-place.invariant.within in
     let end = c.loop-place-test.false in
     let few = units_few text (s.0 ++ unit_in c.finish.result) (broken_in c.finish.result)
-        (ended text c.loop-place.place s.0 c.finish.result (omega (arith, within, end)) (c.finish.ensures (take c.loop-place.place text) s.0 None c.loop-place.invariant.stands s.1)) in
+    (ended text c.loop-place.place s.0 c.finish.result (omega (arith, within, end)) (c.finish.ensures (take c.loop-place.place text) s.0 None c.loop-place.invariant.stands s.1)) in
     let count = counted s.0 c.finish.result c.loop-place.count c.units_in.result s.2 c.units_in.ensures in
     let short = c.requires in
     omega (arith, few, count, short)

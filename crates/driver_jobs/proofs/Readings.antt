@@ -4,7 +4,7 @@ use Rattle.std.specs.List.{range_with_len}
 use Rattle.std.proofs.lemmas.List.FromFn.{get_or-map-range_with_len, length-map-range_with_len}
 use Rattle.bit_io.specs.Payload.{IsAllowedBefore, IsFirstForbidden, is_forbidden, payload}
 use Rattle.nal_units.specs.Units.{Units}
-use Rattle.decoder_render.specs.Submission.{ArePayloads, IsPayload, IsSpoiled, bytes_at, payload_at, place_at}
+use Rattle.decoder_render.specs.Submission.{ArePayloads, IsPayload, bytes_at, payload_at, place_at}
 use Rattle.driver_jobs.specs.Units.{HasUnits}
 
 -- ---- a unit is spoiled, or it isn't

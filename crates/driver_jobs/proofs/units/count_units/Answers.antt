@@ -1,10 +1,8 @@
-use Rattle.std.proofs.Common.{◌≡◌, ◌+◌, ◌*◌, ◌<◌, ◌≤◌, ◌∷◌, ◌++◌, [], ℕ, List, length, take, sym, ap, ◌∙◌, refl, subst, arith, None, Some}
+use Rattle.std.proofs.Common.{◌≡◌, ◌+◌, ◌∷◌, ◌++◌, [], ℕ, List, length, take, sym, ap, ◌∙◌, refl, subst, arith, None, Some}
 use Rattle.std.proofs.lemmas.List.{append-nil, length-append}
 use Rattle.std.proofs.Math.Seq.{take-length}
 use Rattle.nal_units.specs.Settled.{broken_in, unit_in}
 use Rattle.nal_units.specs.Units.{Units}
-use Rattle.nal_units.specs.Finder.{StandsFor}
-use Rattle.nal_units.specs.declared.finder.Finder.{Finder}
 use Rattle.nal_units.specs.declared.finder.Found.{Found}
 use Rattle.nal_units.specs.declared.finder.Found.TheVariants as found
 use Rattle.decoder_render.proofs.Pieces.{rest_len, piece_on, stands_on, settles_on, broken_text}

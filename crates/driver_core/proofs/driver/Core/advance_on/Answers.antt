@@ -1,4 +1,4 @@
-use Rattle.std.proofs.Common.{◌≡◌, inl, false, refl, sym, ap, ◌∙◌}
+use Rattle.std.proofs.Common.{◌≡◌, inl, false, refl, sym, ◌∙◌}
 use Rattle.driver_model.specs.Clock.{ticked_at}
 use Rattle.driver_core.specs.Clocked.{AreDue, is_any_out}
 use Rattle.driver_core.proofs.ClockTicks.{tick_steps, tick_waits}

@@ -21,3 +21,6 @@ mod video_surfaces;
 mod wishes;
 
 pub use driver::{Answered, Driver, Pass};
+pub use driver_core::{
+    Capabilities, Flip, Flips, KeptCounts, Pixels, PresentStatus, Shown, SurfaceSize, Wish,
+};

@@ -32,14 +32,14 @@ fn renew(alloc: Global, count: u64) -> Text {
     let CoreAnswer::Now(Ok(device)) = core.device_create(alloc) else {
         return told::waits(alloc);
     };
-    let mut last = 0;
-    let mut next = 0;
+    let mut last = 0u32;
+    let mut next = 0u64;
     for _ in 0..count.min(100_000) {
         let CoreAnswer::Now(Ok(name)) = core.mixer_create(alloc, device, 16, 16) else {
             return told::waits(alloc);
         };
         if name.wrapping_sub(last) == 8_192 {
-            next += 1;
+            next = next.saturating_add(1);
         }
         core.mixer_destroy(name);
         last = name;

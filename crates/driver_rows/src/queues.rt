@@ -123,17 +123,17 @@ impl Desk {
         done(alloc, core, Now(plain))
     }
 
-    // Destroys so many objects, if they are queues, every second one from this one on, in the order in which they were
-    // made.
+    // Destroys so many queues, every second one from this one on, in the order in which objects were made.
     fn destroy_queues(&mut self, alloc: Global, first: u32, count: u64) -> Text {
+        let mut answer = self.destroy_queue(alloc, first)?;
         for turn in 1..count.min(64) {
-            let name = self.names.later(first, 2 * turn as usize);
-            let answer = self.destroy_queue(alloc, name)?;
             if is_different(answer.as_str()) {
                 return Ok(answer);
             }
+            let name = self.names.later(first, 2 * turn as usize);
+            answer = self.destroy_queue(alloc, name)?;
         }
-        self.destroy_queue(alloc, first)
+        Ok(answer)
     }
 
     fn display(&mut self, alloc: Global, queue: u32, surface: u32, time: u64) -> Text {

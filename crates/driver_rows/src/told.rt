@@ -155,21 +155,12 @@ pub fn kept(alloc: Global, answer: CoreAnswer<KeptCounts>) -> Text {
 pub fn bytes(alloc: Global, bytes: &[u8]) -> Text {
     let count = bytes.len();
     match bytes {
-        [a, b, c, d, ..] => {
-            let how = how(bytes);
+        [a, b, c, d, rest @ ..] => {
+            let how = if bytes.starts_with(rest) { "each four" } else { "at first" };
             format!(in alloc; "{count} bytes, {how} {a} {b} {c} {d}")
         }
         _ => format!(in alloc; "{count} bytes"),
     }
-}
-
-// How the first four bytes stand to all.
-fn how(bytes: &[u8]) -> &'static str {
-    let is_one_pixel = bytes
-        .iter()
-        .zip(bytes.iter().skip(4))
-        .all(|(before, byte)| before == byte);
-    if is_one_pixel { "each four" } else { "at first" }
 }
 
 /// The bytes that a call has put into a buffer.

@@ -1,5 +1,5 @@
 // The picture that lines spell.
-use crate::line::Line;
+use crate::line::{Line, argument};
 use crate::pictures::{Asked, picture_of, worked_info};
 use crate::told::Text;
 use decoder_render::Outcome;
@@ -36,9 +36,9 @@ impl Worked {
             "slices" => Some(self.push_hex(alloc, line.rest)),
             "zeros" => Some(self.push_zeros(alloc, first)),
             "comes" => {
-                self.units = small(first);
-                self.outcome = outcome_of(second, small(third));
-                self.samples = [small(fourth) as u8, small(fifth) as u8];
+                self.units = argument(first);
+                self.outcome = outcome_of(second, argument(third));
+                self.samples = [fourth.min(255) as u8, fifth.min(255) as u8];
                 None
             }
             _ => None,
@@ -93,10 +93,6 @@ impl Worked {
             picture,
         })
     }
-}
-
-fn small(number: u64) -> u32 {
-    number.min(255) as u32
 }
 
 // The outcome with this number: 0 for a picture, 1 for a unit that isn't accepted, and each other for macroblocks that

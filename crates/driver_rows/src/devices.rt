@@ -23,8 +23,17 @@ impl Desk {
         let plain = &mut self.plain;
         let names = &mut self.names;
         match line.name {
-            "device" => Some(named(alloc, names, core.device_create(alloc), plain.device_create())),
-            "destroy_device" => Some(done(alloc, core.device_destroy(a), Now(plain.device_destroy(on)))),
+            "device" => Some(named(
+                alloc,
+                names,
+                core.device_create(alloc),
+                plain.device_create(),
+            )),
+            "destroy_device" => Some(done(
+                alloc,
+                core.device_destroy(a),
+                Now(plain.device_destroy(on)),
+            )),
             "preempt" => Some(done(alloc, core.preempt(a), Now(plain.preempt(on)))),
             "query" => Some(both(
                 alloc,
@@ -37,7 +46,11 @@ impl Desk {
                 core.decoder_create(alloc, a, b, c, d, e),
                 plain.decoder_create(on, b, c, d, e),
             )),
-            "destroy_decoder" => Some(done(alloc, core.decoder_destroy(a), Now(plain.decoder_destroy(on)))),
+            "destroy_decoder" => Some(done(
+                alloc,
+                core.decoder_destroy(a),
+                Now(plain.decoder_destroy(on)),
+            )),
             "mixer" => Some(named(
                 alloc,
                 names,
@@ -50,7 +63,11 @@ impl Desk {
                 core.mixer_set_matrix(a, GREY),
                 Now(plain.mixer_set_matrix(on, GREY)),
             )),
-            "destroy_mixer" => Some(done(alloc, core.mixer_destroy(a), Now(plain.mixer_destroy(on)))),
+            "destroy_mixer" => Some(done(
+                alloc,
+                core.mixer_destroy(a),
+                Now(plain.mixer_destroy(on)),
+            )),
             _ => None,
         }
     }

@@ -102,16 +102,18 @@ impl Desk {
         let info = asked.info(reference);
         let plain_info = asked.info(self.names.plain(reference));
         let notes = self.plain.notes.len();
-        let plain = or_later(self.plain.render(
-            alloc,
-            &[caller],
-            by,
-            to,
-            &plain_info,
-            asked.units,
-            asked.outcome,
-            asked.picture,
-        ));
+        let plain = or_later(
+            self.plain.render(
+                alloc,
+                &[caller],
+                by,
+                to,
+                &plain_info,
+                asked.units,
+                asked.outcome,
+                asked.picture,
+            ),
+        );
         let begun = self.begun(alloc, notes, plain);
         let core = match self
             .core
@@ -152,15 +154,19 @@ impl Desk {
             .iter()
             .position(|begun| begun.caller == caller && begun.place == place)
         else {
-            return both(alloc, told::no_job(alloc), ended(alloc, is_noted, Now(Ok(()))));
+            return both(
+                alloc,
+                told::no_job(alloc),
+                ended(alloc, is_noted, Now(Ok(()))),
+            );
         };
-        let begun = self.jobs.remove(index);
-        let core = match begun.job {
+        let Begun { job, answer, .. } = self.jobs.remove(index);
+        let core = match job {
             Job::Mix(job) => self.core.end_mix(job.run()),
             Job::Render(job) => self.core.end_render(job.run()),
         };
         self.items = self.items.saturating_add(1);
-        let plain = ended(alloc, is_noted, begun.answer);
+        let plain = ended(alloc, is_noted, answer);
         both(alloc, told::done(alloc, core), plain)
     }
 }

@@ -34,7 +34,12 @@ impl Names {
 
     /// The core's name of the object that was made so many objects after the one that it names so.
     pub fn later(&self, core: u32, steps: usize) -> u32 {
-        match self.pairs.iter().skip_while(|pair| pair.0 != core).nth(steps) {
+        match self
+            .pairs
+            .iter()
+            .skip_while(|pair| pair.0 != core)
+            .nth(steps)
+        {
             Some(pair) => pair.0,
             None => NO_NAME,
         }

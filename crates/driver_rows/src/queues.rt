@@ -40,7 +40,11 @@ impl Desk {
                 told::time(alloc, core.get_time(a)),
                 told::time(alloc, Now(plain.get_time(on))),
             )),
-            "promise" => Some(done(alloc, core.promise(a, second), Now(plain.promise(on, second)))),
+            "promise" => Some(done(
+                alloc,
+                core.promise(a, second),
+                Now(plain.promise(on, second)),
+            )),
             "kept" => Some(both(
                 alloc,
                 told::kept(alloc, core.kept()),

@@ -35,7 +35,11 @@ impl Desk {
             )),
             "get_video" => Some(self.get_video(alloc, a, b, third)),
             "put_video" => Some(self.put_video(alloc, a, b, third, fourth)),
-            "destroy_video" => Some(done(alloc, core.video_destroy(a), Now(plain.video_destroy(on)))),
+            "destroy_video" => Some(done(
+                alloc,
+                core.video_destroy(a),
+                Now(plain.video_destroy(on)),
+            )),
             "output" => Some(named(
                 alloc,
                 names,
@@ -44,7 +48,11 @@ impl Desk {
             )),
             "get_output" => Some(self.get_output(alloc, a, second)),
             "put_output" => Some(self.put_output(alloc, a, second, third)),
-            "destroy_output" => Some(done(alloc, core.output_destroy(a), Now(plain.output_destroy(on)))),
+            "destroy_output" => Some(done(
+                alloc,
+                core.output_destroy(a),
+                Now(plain.output_destroy(on)),
+            )),
             _ => None,
         }
     }

@@ -156,7 +156,11 @@ pub fn bytes(alloc: Global, bytes: &[u8]) -> Text {
     let count = bytes.len();
     match bytes {
         [a, b, c, d, rest @ ..] => {
-            let how = if bytes.starts_with(rest) { "each four" } else { "at first" };
+            let how = if bytes.starts_with(rest) {
+                "each four"
+            } else {
+                "at first"
+            };
             format!(in alloc; "{count} bytes, {how} {a} {b} {c} {d}")
         }
         _ => format!(in alloc; "{count} bytes"),

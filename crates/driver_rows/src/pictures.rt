@@ -1,4 +1,6 @@
 // Pictures for renders: their information, their slice units, and what they come to.
+ghost use Rattle.std.specs.Prelude.{◌≤◌};
+
 use cb_types::{PictureInfo, Reference, ScalingList4x4, ScalingList8x8};
 use decoder_render::Outcome;
 use std::alloc::{AllocError, Global};
@@ -95,7 +97,7 @@ pub fn by_number(alloc: Global, number: u32, value: u8) -> Result<Asked, AllocEr
         submission: units_of(alloc, number, value)?,
         units: if number == 4 { 2 } else { 1 },
         outcome,
-        picture: picture_of(alloc, 16, 16, [value, value])?,
+        picture: picture_of(alloc, 1, 1, [value, value])?,
     })
 }
 
@@ -110,21 +112,25 @@ pub fn worked_info(kind: u32, slices: u32) -> PictureInfo {
     }
 }
 
-/// A picture of these sides, as far as pictures can have them, whose luma samples are all this value, and whose chroma
-/// samples are that one.
+/// A picture of so many macroblocks across and down, whose luma samples are all this value, and whose chroma samples are
+/// that one.
 pub fn picture_of(
     alloc: Global,
-    width: u32,
-    height: u32,
+    columns: u32,
+    rows: u32,
     samples: [u8; 2],
-) -> Result<Picture, AllocError> {
+) -> Result<Picture, AllocError>
+    requires some_column { 1 ≤ columns }
+    requires columns { columns ≤ 256 }
+    requires some_row { 1 ≤ rows }
+    requires rows { rows ≤ 256 }
+{
     let [luma, chroma] = samples;
-    let width = width.clamp(2, 4096);
-    let height = height.clamp(2, 4096);
-    let y = Plane::new(alloc, width, height, luma)?;
-    let cb = Plane::new(alloc, width / 2, height / 2, chroma)?;
-    let cr = Plane::new(alloc, width / 2, height / 2, chroma)?;
-    Ok(Picture { y, cb, cr })
+    Ok(Picture {
+        y: Plane::new(alloc, 16 * columns, 16 * rows, luma)?,
+        cb: Plane::new(alloc, 8 * columns, 8 * rows, chroma)?,
+        cr: Plane::new(alloc, 8 * columns, 8 * rows, chroma)?,
+    })
 }
 
 // The start code prefix and the header of a slice unit of such a picture, up to the samples of its first macroblock:

@@ -79,11 +79,14 @@ impl Worked {
         kind: u32,
         slices: u32,
     ) -> Result<Asked, AllocError> {
-        let (width, height) = match size {
-            Ok(size) => (size.width, size.height),
-            Err(_) => (16, 16),
+        let (columns, rows) = match size {
+            Ok(size) => (
+                (size.width / 16).clamp(1, 256),
+                (size.height / 16).clamp(1, 256),
+            ),
+            Err(_) => (1, 1),
         };
-        let picture = picture_of(alloc, width, height, self.samples)?;
+        let picture = picture_of(alloc, columns, rows, self.samples)?;
         Ok(Asked {
             info: worked_info(kind, slices),
             has_reference: kind == 1 || kind == 2,

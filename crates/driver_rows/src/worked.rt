@@ -79,13 +79,12 @@ impl Worked {
         kind: u32,
         slices: u32,
     ) -> Result<Asked, AllocError> {
-        let (columns, rows) = match size {
-            Ok(size) => (
-                (size.width / 16).clamp(1, 256),
-                (size.height / 16).clamp(1, 256),
-            ),
-            Err(_) => (1, 1),
+        let (width, height) = match size {
+            Ok(size) => (size.width, size.height),
+            Err(_) => (16, 16),
         };
+        let columns = (width / 16).clamp(1, 256);
+        let rows = (height / 16).clamp(1, 256);
         let picture = picture_of(alloc, columns, rows, self.samples)?;
         Ok(Asked {
             info: worked_info(kind, slices),

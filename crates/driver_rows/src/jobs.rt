@@ -83,7 +83,13 @@ impl Desk {
         value: u64,
     ) -> Text {
         let [decoder, target, number] = names;
-        let asked = by_number(alloc, number, value.clamp(1, 255) as u8)?;
+        let missing = match self.plain.video_parameters(self.names.plain(target)) {
+            Ok(size) => (size.width / 16)
+                .saturating_mul(size.height / 16)
+                .saturating_sub(1),
+            Err(_) => 0,
+        };
+        let asked = by_number(alloc, number, value.clamp(1, 255) as u8, missing)?;
         self.render(alloc, caller, [decoder, target, number], asked)
     }
 

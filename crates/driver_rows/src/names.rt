@@ -1,8 +1,8 @@
 // The names of objects.
 use std::alloc::{AllocError, Global};
 
-// A name of this kind is given to nothing.
-const NO_NAME: u32 = u32::MAX;
+// The least name of a kind that there isn't. Neither driver gives it, or a greater one.
+const NO_NAME: u32 = 0xC000_0000;
 
 /// The names that the two drivers gave, the core's first, in the order in which they gave them.
 #[derive(Drop)]
@@ -24,11 +24,11 @@ impl Names {
     }
 
     /// The slow driver's name of what the core names so; one that it doesn't give where the core has never given the
-    /// name.
+    /// name, the same where it can't give it, as that of no reference.
     pub fn plain(&self, core: u32) -> u32 {
         match self.pairs.iter().find(|pair| pair.0 == core) {
             Some(pair) => pair.1,
-            None => NO_NAME,
+            None => core.max(NO_NAME),
         }
     }
 

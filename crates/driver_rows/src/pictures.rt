@@ -78,18 +78,20 @@ impl Asked {
     }
 }
 
-/// The picture with this number, which is of one slice of a macroblock whose samples are all this value, from 1 on:
-/// 1 has CABAC, in 2 the samples are missing in the slice unit, 3 is for a larger picture and so lacks a macroblock, 4
-/// has the unit twice, and each greater number has a reference.
-pub fn by_number(alloc: Global, number: u32, value: u8) -> Result<Asked, AllocError> {
+/// The picture with this number, which is of one slice of a macroblock whose samples are all this value, from 1 on, for
+/// a surface in which so many macroblocks are missing then: 1 has CABAC, in 2 the samples are missing in the slice unit,
+/// 4 has the unit twice, and each greater number has a reference.
+pub fn by_number(alloc: Global, number: u32, value: u8, missing: u32) -> Result<Asked, AllocError> {
     let info = PictureInfo {
         entropy_coding_mode_flag: number == 1,
         ..IDR
     };
-    let outcome = match number {
-        2 => Outcome::Bitstream { slice: 0 },
-        3 => Outcome::Incomplete { macroblocks: 1 },
-        _ => Outcome::Ok,
+    let outcome = match (number, missing) {
+        (2, _) => Outcome::Bitstream { slice: 0 },
+        (_, 0) => Outcome::Ok,
+        _ => Outcome::Incomplete {
+            macroblocks: missing,
+        },
     };
     Ok(Asked {
         info,

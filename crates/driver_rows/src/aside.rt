@@ -29,14 +29,16 @@ impl Desk {
 // many names were those of the next generation.
 fn renew(alloc: Global, count: u64) -> Text {
     let mut core = Core::new(alloc)?;
-    let CoreAnswer::Now(Ok(device)) = core.device_create(alloc) else {
-        return told::waits(alloc);
+    let answer = core.device_create(alloc);
+    let CoreAnswer::Now(Ok(device)) = answer else {
+        return told::name(alloc, answer);
     };
     let mut last = 0u32;
     let mut next = 0u64;
     for _ in 0..count.min(100_000) {
-        let CoreAnswer::Now(Ok(name)) = core.mixer_create(alloc, device, 16, 16) else {
-            return told::waits(alloc);
+        let answer = core.mixer_create(alloc, device, 16, 16);
+        let CoreAnswer::Now(Ok(name)) = answer else {
+            return told::name(alloc, answer);
         };
         if name.wrapping_sub(last) == 8_192 {
             next = next.saturating_add(1);

@@ -4,6 +4,7 @@ use crate::pictures::{Asked, picture_of, worked_info};
 use crate::told::Text;
 use decoder_render::Outcome;
 use driver_model::SurfaceSize;
+use hex::FromHexError;
 use std::alloc::{AllocError, Global};
 use std::mem;
 use submission::{MAX_SUBMISSION, Submission, SubmissionFault};
@@ -48,6 +49,7 @@ impl Worked {
     fn push_hex(&mut self, alloc: Global, text: &str) -> Text {
         match hex::decode(alloc, text) {
             Ok(bytes) => self.push(alloc, &bytes),
+            Err(FromHexError::OutOfMemory) => Err(AllocError),
             Err(_) => format!(in alloc; "no bytes"),
         }
     }

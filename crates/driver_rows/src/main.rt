@@ -23,16 +23,18 @@
 //!     grey M                                       the mixer copies Y to red, green and blue
 //!     destroy_mixer M                              done
 //!     mix CALLER M STRUCTURE V O                   begun
-//!     render CALLER C V NUMBER BYTE                begun: the samples are this byte, from 1 to 255. A number up to 4 has a fault
-//!                                                  of its own (pictures.rt), a greater one is the name of a reference
-//!     decode C V KIND SLICES REFERENCE             begun, for the caller 0: the picture that the lines before have told, an IDR
-//!                                                  picture (0), the next one (1), weighted (2), or without a reference (3), which
-//!                                                  is said to have so many slices
+//!     render CALLER C V NUMBER BYTE                begun: the samples are this byte, from 1 to 255. A number up to 4 has
+//!                                                  a fault of its own (pictures.rt), a greater one is a reference's name
+//!     decode C V KIND SLICES REFERENCE             begun, for the caller 0: the picture that the lines before have told,
+//!                                                  an IDR picture (0), the next one (1), weighted (2), or without a
+//!                                                  reference (3), which is said to have so many slices
 //!     slices HEX                                   bytes of that picture's slice units: how many it has now
 //!     zeros COUNT                                  so many zeros of it
-//!     comes UNITS OUTCOME NUMBER LUMA CHROMA       so many units it has, and what they come to: a picture (0) of these samples,
-//!                                                  the unit of this number at fault (1), or so many macroblocks missing (2)
-//!     end CALLER PLACE                             the job that was begun at this place of the history is run and ended: its answer
+//!     comes UNITS OUTCOME NUMBER LUMA CHROMA       so many units it has, and what they come to: a picture (0) of these
+//!                                                  samples, the unit of this number at fault (1), or so many
+//!                                                  macroblocks missing (2)
+//!     end CALLER PLACE                             the job that was begun at this place of the history is run and ended:
+//!                                                  its answer
 //!     flips                                        each flip of the last tick, as it stands now
 //!     queue D WINDOW                               a queue's name
 //!     queues D COUNT                               so many queues: the last answer

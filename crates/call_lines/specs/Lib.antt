@@ -1,4 +1,0 @@
-pub mod Pictures
-pub mod Texts
-pub mod Wishes
-pub mod Words

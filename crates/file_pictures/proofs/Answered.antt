@@ -32,7 +32,7 @@ use Rattle.file_pictures.specs.declared.stream_decoder.StreamDecoder.{StreamDeco
 use Rattle.file_pictures.proofs.Kept.{gone_on, keeps_more, kept_on, references_are, sized_on}
 use Rattle.file_pictures.proofs.Payloads.{slices_have_payloads}
 use Rattle.file_pictures.proofs.Steps.{comes_to, comes_to_none, may_ask, offered}
-use Rattle.file_pictures.proofs.WholeSlices.{next_slices}
+use Rattle.access_units.proofs.WholeSlices.{next_slices}
 
 -- ---- what the buffer is asked
 

@@ -1,12 +1,8 @@
-pub mod WholeSlices
 pub mod Payloads
 pub mod Kept
 pub mod Steps
 pub mod Onward
 pub mod Answered
-pub mod OneContent
-pub mod OneGrouping
-pub mod OneList
 pub mod OneDecoded
 pub mod OneReading
 pub mod SomeContent

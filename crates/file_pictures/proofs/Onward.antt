@@ -11,7 +11,7 @@ use Rattle.access_units.specs.AccessUnits.{AccessUnit}
 use Rattle.access_units.specs.Acceptors.{AreFirst, IsAtAnEnd, IsSettled}
 use Rattle.access_units.specs.Contents.{AreTold, Told, places_of}
 use Rattle.file_pictures.specs.Files.{Decoded, Fault, IsReadTo}
-use Rattle.file_pictures.proofs.WholeSlices.{placed_each}
+use Rattle.access_units.proofs.WholeSlices.{placed_each}
 
 -- ---- a unit within a text is the same in a longer one
 

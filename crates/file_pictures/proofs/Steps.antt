@@ -33,7 +33,7 @@ use Rattle.file_pictures.specs.Offers.{AreKeptBehind, AreSamples, IsOffered, Off
 use Rattle.file_pictures.specs.Streams.{IsKept, IsNextOne, MayFeed, Shows, StandsFor, Stream, newest_sequence, no_stream, past_of, showing, streamed}
 use Rattle.file_pictures.specs.declared.stream_decoder.StreamDecoder.{StreamDecoder}
 use Rattle.file_pictures.proofs.Payloads.{slices_have_payloads}
-use Rattle.file_pictures.proofs.WholeSlices.{next_slices}
+use Rattle.access_units.proofs.WholeSlices.{next_slices}
 
 -- ---- at the beginning
 
@@ -197,27 +197,6 @@ gives old new offer unsettled poc shown is whole kept poc_is settled =
     (with_samples offer p, next_one old offer unsettled p is whole, shows_one old offer unsettled poc shown p is poc_is refl, stands_more old new offer unsettled p is whole kept settled)
 
 -- ---- the picture isn't accepted
-
-begun_one : (m n : Marker) (a b : Named) (x y : Begun) → m ≡ n → a ≡ b → begun_of m a.sps a.pps a.header ≡ Ok x → begun_of n b.sps b.pps b.header ≡ Ok y → x ≡ y
-begun_one m n a b x y em en is also =
-    let f : Marker → Named → Result Begun MarkFault = λ m n. begun_of m n.sps n.pps n.header in
-    let same : f m a ≡ f n b = ap (λ (k : Marker). f k a) em ∙ ap (λ (k : Named). f n k) en in
-    let all : Ok x ≡ Ok y = sym is ∙ (same ∙ also) in
-    cc
-
--- an access unit is one picture at most
-pub picture_one : (before : List Picture) (au : AccessUnit) (a b : Picture) → IsPicture before au a → IsPicture before au b → a ≡ b
-picture_one before au a b is also =
-    let first = is.first in
-    let first' = also.first in
-    let named : is.named ≡ also.named = cc in
-    let behind = is.begins.behind in
-    let behind' = also.begins.behind in
-    let marker : is.begins.marker ≡ also.begins.marker = cc in
-    let begun : is.begun ≡ also.begun = begun_one is.begins.marker also.begins.marker is.named also.named is.begun also.begun marker named is.begins.begins also.begins.begins in
-    let is_a = is.is in
-    let is_b = also.is in
-    cc
 
 same_slices : (before : List Picture) (au : AccessUnit) (picture : Picture) → IsPicture before au picture → picture.slices ≡ au.slices
 same_slices before au picture is = ap (λ (p : Picture). p.slices) is.is

@@ -1,8 +1,9 @@
 -- The end and a refusal stay the answer, whatever is fed.
 use Rattle.std.proofs.Common.{◌≡◌, ℕ, inl, inr, Bool, true, false, List, [], ◌∷◌, sym, subst, ◌∙◌}
 use Rattle.access_units.specs.AccessUnits.{AccessUnit}
-use Rattle.access_units.specs.Acceptors.{IsAnswer, IsFailed, IsSettled, IsStopped, IsUpNext, MayFeed, Past, fed}
+use Rattle.access_units.specs.Acceptors.{IsAnswer, IsFailed, IsNext, IsSettled, IsStopped, IsUpNext, MayFeed, Past, fed}
 use Rattle.access_units.specs.Answers.{IsFedOn, Stays, StaysIfLast}
+use Rattle.access_units.specs.Pictures.{Picture}
 use Rattle.access_units.specs.declared.acceptor.Next.{Next}
 use Rattle.access_units.specs.declared.acceptor.Next.TheVariants as next
 use Rattle.access_units.proofs.OneAnswer.{answers_one}
@@ -17,6 +18,10 @@ up_on past (byte ∷ bytes) au may up = record {
   settled = settled_on past.text (byte ∷ bytes) past.ended up.front au (subst (λ (e : Bool). IsSettled past.text e up.front au) may.not_ended up.settled);
   pictures = up.pictures;
 }
+
+pub next_on : (past : Past) (bytes : List ℕ) (picture : Picture) → MayFeed past bytes → IsNext past picture → IsNext (fed past bytes) picture
+next_on past [] picture may next = record { outcome = next.outcome; au = next.au; up_next = up_on past [] next.au may next.up_next; is = next.is }
+next_on past (byte ∷ bytes) picture may next = record { outcome = next.outcome; au = next.au; up_next = up_on past (byte ∷ bytes) next.au may next.up_next; is = next.is }
 
 stopped_on : (past : Past) (bytes : List ℕ) (offset : ℕ) (large : Bool) → MayFeed past bytes → IsStopped past offset large → IsStopped (fed past bytes) offset large
 stopped_on past [] offset large may is = record {

@@ -69,7 +69,7 @@ module _ (past : Past) where
   first_same : (a b : AccessUnit) (xs ys : List AccessUnit) → a ∷ xs ≡ b ∷ ys → a ≡ b
   first_same a b xs ys e = cc
 
-  up_one : (a b : AccessUnit) → IsUpNext past a → IsUpNext past b → a ≡ b
+  pub up_one : (a b : AccessUnit) → IsUpNext past a → IsUpNext past b → a ≡ b
   up_one a b x y =
       let xs : List AccessUnit = a ∷ x.front in
       let ys : List AccessUnit = b ∷ y.front in
@@ -77,7 +77,7 @@ module _ (past : Past) where
       first_same a b x.front y.front (one_list xs ys (share past.text xs ys (settled past.text x.front a (up_settled a x)) (settled past.text y.front b (up_settled b y))) long)
 
   -- at the end no access unit is next but a tail
-  not_at_end : (au : AccessUnit) → IsAtEnd past → IsUpNext past au → (au.refused ≡ None → au.slices ≡ [] → ⊥) → ⊥
+  pub not_at_end : (au : AccessUnit) → IsAtEnd past → IsUpNext past au → (au.refused ≡ None → au.slices ≡ [] → ⊥) → ⊥
   not_at_end au end up some =
       let within = whole_within past.text end.front up.front au end.all (up_settled au up) some in
       let all = pictures_many end.front past.given end.pictures in
@@ -140,7 +140,7 @@ none_up text front up au w is = elim is.by [
   | inr all ↦ absurd (not_broken text front (places_of is.told) all.0 w all.1)
 ]
 
-not_hungry : (past : Past) (au : AccessUnit) → IsHungry past → IsUpNext past au → ⊥
+pub not_hungry : (past : Past) (au : AccessUnit) → IsHungry past → IsUpNext past au → ⊥
 not_hungry past au hungry up =
     let is : IsSettled past.text false up.front au = subst (λ (e : Bool). IsSettled past.text e up.front au) hungry.not_ended up.settled in
     let less = none_up past.text hungry.front up.front au hungry.all is in
@@ -169,7 +169,7 @@ shown_one u v p q same x z =
     unsettled_of u v (x.offset ∙ sym y.offset) (x.begun ∙ sym y.begun) (x.size ∙ sym y.size) (x.depth ∙ sym y.depth) (x.references ∙ sym y.references) (x.submission ∙ sym y.submission)
 
 -- it has a slice
-next_some : (past : Past) (picture : Picture) (x : IsNext past picture) → x.au.refused ≡ None → x.au.slices ≡ [] → ⊥
+pub next_some : (past : Past) (picture : Picture) (x : IsNext past picture) → x.au.refused ≡ None → x.au.slices ≡ [] → ⊥
 next_some past picture x fine empty =
     let first = x.is.first in
     some_slices past.text past.ended x.up_next.front x.au x.up_next.settled (λ none. let e : Some x.is.named ≡ None = sym first ∙ none in absurd (cc)) empty

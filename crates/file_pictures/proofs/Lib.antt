@@ -2,6 +2,7 @@ pub mod Payloads
 pub mod Kept
 pub mod Steps
 pub mod Onward
+pub mod OneStep
 pub mod Answered
 pub mod OneDecoded
 pub mod OneReading

@@ -1,6 +1,6 @@
 -- At one moment one answer is right at most.
-use Rattle.std.proofs.Common.{◌≡◌, ℕ, ◌+◌, ◌-◌, ◌<◌, ◌≤◌, inl, inr, Bool, true, false, cond, List, [], ◌∷◌, ◌++◌, length, take, drop, Option, Some, None, Result, Ok, refl, sym, ap, subst, ◌∙◌, arith, length-append}
-use Rattle.std.specs.Prelude.{filter, nat_le}
+use Rattle.std.proofs.Common.{◌≡◌, ℕ, suc, ◌+◌, ◌-◌, ◌<◌, ◌≤◌, inl, inr, Bool, true, false, cond, List, [], ◌∷◌, ◌++◌, length, take, drop, Option, Some, None, Result, Ok, refl, sym, ap, subst, ◌∙◌, arith, length-append}
+use Rattle.std.specs.Prelude.{filter, nat_le, unwrap_or}
 use Rattle.std.proofs.lemmas.Bool.{le-leb, leb-true}
 use Rattle.std.proofs.lemmas.List.{append-nil, length-drop, take-append-drop}
 use Rattle.std.proofs.lemmas.List.Elements.{filter-append}
@@ -16,7 +16,7 @@ use Rattle.nal_units.proofs.Unique.{units_unique}
 use Rattle.access_units.specs.AccessUnits.{AccessUnit, grouped}
 use Rattle.access_units.specs.Acceptors.{AreAllSettled, AreFirst, IsAnswer, IsAtEnd, IsAtAnEnd, IsFailed, IsHungry, IsNext, IsSettled, IsStopped, IsUpNext, Past, Shows}
 use Rattle.access_units.specs.Answers.{AnswersAreOne, NextPicturesAreOne}
-use Rattle.access_units.specs.Contents.{Told, places_of}
+use Rattle.access_units.specs.Contents.{AreTold, Told, places_of}
 use Rattle.access_units.specs.Pictures.{ArePictures, IsPicture, Picture}
 use Rattle.access_units.specs.declared.acceptor.Next.{Next}
 use Rattle.access_units.specs.declared.acceptor.Next.TheVariants as next
@@ -111,8 +111,7 @@ first_settled text all some settles first =
     let begins = settled_first front (drop first.0 text) some have.0 have.1 first.2 there in
     let short : length front ≤ length text = omega (arith, ap length whole, length-append front (drop first.0 text)) in
     let own = first.2.1 in
-    let stays : ended text some ≡ some = ap (ended text) own.3 ∙ ended_more front text own.0 short ∙ sym own.3 in
-    (
+    let stays : ended text some ≡ some = ap (ended text) own.3 ∙ ended_more front text own.0 short ∙ sym own.3 in (
       ended text begins.0,
       have.3 ∙ ap (ended text) begins.1 ∙ filter-append (λ (u : ℕ × ℕ). nat_le (u.1 + 3) (length text)) some begins.0 ∙ ap (λ (xs : List (ℕ × ℕ)). xs ++ ended text begins.0) stays,
     )
@@ -125,8 +124,11 @@ more_settled text front xs another told w each first is =
     let few : length told ≤ length w.told = omega (arith, ap length begins.1, length-append (places_of told) begins.0, length_places told, length_places w.told) in
     let later = fewer_first text (places_of w.told) told w.told each w.each begins (all_first (places_of w.told) w.told refl) few in
     let all = grouped_more later.0 told xs another is in
-    let same : grouped w.told ≡ all.0 ++ all.1 ∷ xs = ap grouped later.1 ∙ all.2 in
-    omega (arith, ap length w.split, length-drop 1 (grouped w.told), ap length same, length-append all.0 (all.1 ∷ xs))
+    let more : List AccessUnit = all.0 in
+    let last : AccessUnit = all.1 in
+    let same : length (grouped w.told) ≡ length (more ++ last ∷ xs) = ap length (ap grouped later.1 ∙ all.2) in
+    let rest : length (drop 1 (grouped w.told)) ≡ length front = ap length w.split in
+    omega (arith, rest, length-drop 1 (grouped w.told), same, length-append more (last ∷ xs))
 
 -- A text that can be whole has no broken place.
 not_broken : (text : List ℕ) (front : List AccessUnit) (spots : List (ℕ × ℕ)) (broken : Option ℕ) → AreAllSettled text front → IsAtAnEnd text false spots broken → ⊥
@@ -202,7 +204,7 @@ not_whole : (past : Past) (offset : ℕ) → IsFailed past offset → past.outco
 not_whole past offset failed whole = let e : Some false ≡ Some true = sym failed.outcome ∙ whole in absurd (cc)
 
 not_ended : (past : Past) → past.ended ≡ true → past.ended ≡ false → ⊥
-not_ended past yes no = let e : true ≡ false = sym yes ∙ no in absurd (cc)
+not_ended past is isnt = let e : true ≡ false = sym is ∙ isnt in absurd (cc)
 
 -- ---- all answers
 

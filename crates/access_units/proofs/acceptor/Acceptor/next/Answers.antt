@@ -1,10 +1,11 @@
-use Rattle.std.proofs.Common.{◌≡◌, Bool, true, Some, inl, refl, subst, sym}
+use Rattle.std.proofs.Common.{◌≡◌, Bool, true, false, Some, inl, refl, subst, sym}
 use Rattle.std.specs.Prelude.{Err, IfOk, Ok, OnErr, Result}
 use Rattle.access_units.specs.Acceptors.{IsAnswer, IsDecodableIn, MayAsk, Past}
 use Rattle.access_units.specs.Answers.{StaysIfLast}
 use Rattle.access_units.specs.Standing.{StandsBehindAnswer, StandsFor}
 use Rattle.access_units.specs.declared.acceptor.Acceptor.{Acceptor}
 use Rattle.access_units.specs.declared.acceptor.Next.{Next}
+use Rattle.access_units.specs.declared.acceptor.Next.TheVariants as next
 use Rattle.access_units.proofs.AskLemmas.{accepted, failed, stands_on}
 use Rattle.access_units.proofs.LastAnswer.{stays_if_last}
 use Rattle.access_units.proofs.acceptor.Acceptor.next.Goals as goal
@@ -21,7 +22,9 @@ pub returns-then-self-clause-answer : goal.returns-then-self-clause-answer
 returns-then-self-clause-answer c = λ past s may. inl (failed c.args.self.now past s c.if-self.true, refl)
 
 pub returns-then-self-clause-stays : goal.returns-then-self-clause-stays
-returns-then-self-clause-stays c = λ past s may. stays_if_last past _ (inl (failed c.args.self.now past s c.if-self.true, refl))
+returns-then-self-clause-stays c = λ past s may.
+    let answer : Next = next.Refused c.args.self.now.last_offset false in
+    stays_if_last past answer (inl (failed c.args.self.now past s c.if-self.true, refl))
 
 pub returns-in_err-gather-clause-untouched : goal.returns-in_err-gather-clause-untouched
 returns-in_err-gather-clause-untouched c =

@@ -1,10 +1,9 @@
 -- At one moment one answer is right at most.
-use Rattle.std.proofs.Common.{◌≡◌, ℕ, suc, ◌+◌, ◌-◌, ◌<◌, ◌≤◌, inl, inr, Bool, true, false, cond, List, [], ◌∷◌, ◌++◌, length, take, drop, Option, Some, None, Result, Ok, refl, sym, ap, subst, ◌∙◌, arith, length-append}
+use Rattle.std.proofs.Common.{◌≡◌, ℕ, suc, ◌+◌, ◌<◌, ◌≤◌, inl, inr, Bool, true, false, cond, List, [], ◌∷◌, ◌++◌, length, take, drop, Option, Some, None, Result, Ok, refl, sym, ap, subst, ◌∙◌, arith, length-append}
 use Rattle.std.specs.Prelude.{filter, nat_le, unwrap_or}
 use Rattle.std.proofs.lemmas.Bool.{le-leb, leb-true}
-use Rattle.std.proofs.lemmas.List.{append-nil, length-drop, take-append-drop}
+use Rattle.std.proofs.lemmas.List.{length-drop, take-append-drop}
 use Rattle.std.proofs.lemmas.List.Elements.{filter-append}
-use Rattle.cb_types.specs.declared.size.SizeMbs.{SizeMbs}
 use Rattle.marking.specs.Begun.{begun_of}
 use Rattle.marking.specs.declared.begun.Begun.{Begun}
 use Rattle.marking.specs.declared.begun.MarkFault.{MarkFault}
@@ -14,15 +13,14 @@ use Rattle.nal_units.specs.Units.{Units}
 use Rattle.nal_units.proofs.Growing.{settled_first}
 use Rattle.nal_units.proofs.Unique.{units_unique}
 use Rattle.access_units.specs.AccessUnits.{AccessUnit, grouped}
-use Rattle.access_units.specs.Acceptors.{AreAllSettled, AreFirst, IsAnswer, IsAtEnd, IsAtAnEnd, IsFailed, IsHungry, IsNext, IsSettled, IsStopped, IsUpNext, Past, Shows}
+use Rattle.access_units.specs.Acceptors.{AreAllSettled, AreFirst, IsAtEnd, IsAtAnEnd, IsFailed, IsHungry, IsNext, IsSettled, IsStopped, IsUpNext, Past, Shows}
 use Rattle.access_units.specs.Answers.{AnswersAreOne, NextPicturesAreOne}
 use Rattle.access_units.specs.Contents.{AreTold, Told, places_of}
 use Rattle.access_units.specs.Pictures.{ArePictures, IsPicture, Picture}
-use Rattle.access_units.specs.declared.acceptor.Next.{Next}
 use Rattle.access_units.specs.declared.acceptor.Next.TheVariants as next
 use Rattle.access_units.specs.declared.acceptor.Unsettled.{Unsettled}
 use Rattle.access_units.specs.declared.content.Named.{Named}
-use Rattle.access_units.proofs.OneGrouping.{StandFirst, all_first, fewer_first, grouped_more, length_places, settled}
+use Rattle.access_units.proofs.OneGrouping.{all_first, fewer_first, grouped_more, length_places, settled}
 use Rattle.access_units.proofs.OneList.{one_list, share, whole_within}
 use Rattle.access_units.proofs.Onward.{settled_at_end}
 use Rattle.access_units.proofs.WholeSlices.{some_slices}

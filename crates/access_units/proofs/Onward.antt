@@ -1,5 +1,5 @@
 -- What the front of a file settled stays so, whatever follows.
-use Rattle.std.proofs.Common.{◌≡◌, ℕ, ◌≤◌, inl, inr, Bool, true, false, List, [], ◌∷◌, ◌++◌, length, take, Option, None, refl, sym, subst, append_assoc, arith, length-append}
+use Rattle.std.proofs.Common.{◌≡◌, ℕ, inl, inr, Bool, true, false, List, ◌++◌, length, take, Option, None, refl, sym, subst, append_assoc, arith, length-append}
 use Rattle.std.proofs.lemmas.List.{take-append-le}
 use Rattle.nal_units.specs.Settled.{Settles}
 use Rattle.nal_units.specs.Units.{Units}

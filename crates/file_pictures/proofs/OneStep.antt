@@ -43,6 +43,7 @@ module _ (stream : Stream) where
       to.fault_is ∙ ap fault_of au ∙ sym also.fault_is
 
   decoded_or_end : (one : Decoded) → IsNextOne stream one → stream.ended ≡ true → IsReadWhole stream.text stream.decoded → ⊥
+  unfolding next_decoded
   decoded_or_end one is ended whole =
       let next = next_decoded one is in not_at_end (past_of stream) is.au (at_end ended whole) next.up_next (next_some (past_of stream) one.picture next)
 

@@ -133,10 +133,10 @@ asked_past decoder stream (inl on) = (past_of stream, on.acceptor, may_ask strea
 asked_past decoder stream (inr broken) = (broken_at stream broken.picture, broken.acceptor, may_ask_broken stream broken.picture)
 
 -- The acceptor answered this, and stands for it.
-pub record Answered (old new : Acceptor) (answer : Next) : Type 0 where
-  pub answer : (past : acceptors.Past) → acceptor.StandsFor old past → acceptors.MayAsk past → acceptors.IsAnswer past answer
-  pub stands : (past : acceptors.Past) → acceptor.StandsFor old past → acceptors.MayAsk past → acceptor.StandsBehindAnswer new past answer
-  pub decodable : (past : acceptors.Past) → acceptor.StandsFor old past → acceptors.MayAsk past → acceptors.IsDecodableIn past answer
+pub record Answered (old new : Acceptor) (told : Next) : Type 0 where
+  pub answer : (past : acceptors.Past) → acceptor.StandsFor old past → acceptors.MayAsk past → acceptors.IsAnswer past told
+  pub stands : (past : acceptors.Past) → acceptor.StandsFor old past → acceptors.MayAsk past → acceptor.StandsBehindAnswer new past told
+  pub decodable : (past : acceptors.Past) → acceptor.StandsFor old past → acceptors.MayAsk past → acceptors.IsDecodableIn past told
 
 -- Behind a picture that came to no whole one nothing but a refusal is answered.
 no_more : (stream : Stream) (picture : Picture) → (broken_at stream picture).outcome ≡ Some true → ⊥

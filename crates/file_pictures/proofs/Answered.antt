@@ -17,12 +17,7 @@ use Rattle.picture_buffer.specs.Buffers.{Decodes, HasUnits, size_of, with_pictur
 use Rattle.picture_buffer.specs.Buffers as buffers
 use Rattle.picture_buffer.specs.Renaming.{IsOther, picture_of}
 use Rattle.picture_buffer.specs.declared.buffer.PictureBuffer.{PictureBuffer}
-use Rattle.access_units.specs.Acceptors as acceptors
 use Rattle.access_units.specs.Pictures.{Picture, payloads_of}
-use Rattle.access_units.specs.Standing as acceptor
-use Rattle.access_units.specs.declared.acceptor.Acceptor.{Acceptor}
-use Rattle.access_units.specs.declared.acceptor.Next.{Next}
-use Rattle.access_units.specs.declared.acceptor.Next.TheVariants as next
 use Rattle.access_units.specs.declared.acceptor.Unsettled.{Unsettled}
 use Rattle.file_pictures.specs.Files.{Decoded, references_of}
 use Rattle.file_pictures.specs.Offers.{AreKeptBehind, AreSamples, IsOffered, Offer, with_samples}

@@ -3,7 +3,7 @@ use Rattle.std.proofs.Common.{◌≡◌, ℕ, inl, inr, true, List, [], ◌∷�
 use Rattle.std.proofs.lemmas.Bool.{cases_lt}
 use Rattle.std.proofs.lemmas.List.{append-nil, length-append}
 use Rattle.access_units.specs.AccessUnits.{AccessUnit}
-use Rattle.access_units.specs.Acceptors.{AreAll, IsSettled, IsTail}
+use Rattle.access_units.specs.Acceptors.{AreAll, IsSettled}
 use Rattle.access_units.specs.Pictures.{ArePictures}
 use Rattle.file_pictures.specs.Files.{AreAllWhole, AreDecoded, Decoded, Fault, HasPictures, IsAcceptedPicture, IsFirstRefused, IsRead, IsReadTo, IsReadWhole, IsTooLong, fault_of}
 use Rattle.file_pictures.proofs.OneDecoded.{AreReadUnits, decoded_one, head_of, last_read, settled_read, splits}

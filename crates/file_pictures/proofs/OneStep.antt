@@ -1,11 +1,11 @@
 -- The end and a refusal stay the answer, whatever is fed.
-use Rattle.std.proofs.Common.{◌≡◌, ℕ, inl, inr, Bool, true, false, List, [], ◌∷◌, refl, sym, ap, subst, ◌∙◌}
+use Rattle.std.proofs.Common.{◌≡◌, ℕ, Bool, true, false, List, [], ◌∷◌, refl, sym, ap, subst, ◌∙◌}
 use Rattle.access_units.specs.AccessUnits.{AccessUnit}
-use Rattle.access_units.specs.Acceptors.{IsAtEnd, IsNext, IsSettled, IsUpNext}
+use Rattle.access_units.specs.Acceptors.{IsAtEnd, IsNext, IsUpNext}
 use Rattle.access_units.proofs.OneAnswer.{next_some, not_at_end, not_hungry, up_one}
 use Rattle.access_units.proofs.Onward.{settled_at_end}
 use Rattle.file_pictures.specs.Files.{Decoded, Fault, IsAcceptedPicture, IsReadTo, IsReadWhole, fault_of}
-use Rattle.file_pictures.specs.Streams.{IsNextOne, IsStep, IsStreamedOn, MayFeed, StandsFor, Stays, StaysIfLast, Stream, past_of, streamed}
+use Rattle.file_pictures.specs.Streams.{IsNextOne, IsStep, IsStreamedOn, MayFeed, Stays, StaysIfLast, Stream, past_of, streamed}
 use Rattle.file_pictures.specs.declared.stream_decoder.Step.{Step}
 use Rattle.file_pictures.specs.declared.stream_decoder.Step.TheVariants as step
 use Rattle.file_pictures.specs.declared.stream_decoder.StreamDecoder.{StreamDecoder}

@@ -1,5 +1,5 @@
 -- What a decoder answers follows from what the acceptor gives and what a picture's slices come to.
-use Rattle.std.proofs.Common.{◌≡◌, ◌≢◌, ℕ, ℤ, inl, inr, ◌⊎◌, Bool, true, false, List, [], ◌∷◌, Option, Some, None, Result, Ok, refl, sym, ◌∙◌, ap, subst}
+use Rattle.std.proofs.Common.{◌≡◌, ◌≢◌, ℕ, ℤ, inl, inr, ◌⊎◌, Bool, true, false, List, [], ◌∷◌, Option, Some, None, refl, sym, ◌∙◌, ap, subst}
 use Rattle.std.specs.Prelude.{unwrap_or}
 use Rattle.std.specs.declared.alloc.Global.{Global}
 use Rattle.std.specs.declared.sync.Arc.{Arc}
@@ -13,10 +13,7 @@ use Rattle.decoder_render.specs.declared.outcome.Outcome.{Outcome}
 use Rattle.decoder_render.specs.declared.outcome.Outcome.TheVariants as outcome
 use Rattle.decoder_render.proofs.OneOutcome.{outcome_one}
 use Rattle.decoder_render.proofs.OneReading.{payloads_one}
-use Rattle.marking.specs.Begun.{begun_of}
 use Rattle.marking.specs.declared.begun.Begun.{Begun}
-use Rattle.marking.specs.declared.begun.MarkFault.{MarkFault}
-use Rattle.marking.specs.declared.marker.Marker.{Marker}
 use Rattle.vd_plane.specs.declared.picture.Picture as samples
 use Rattle.picture_buffer.specs.declared.buffer.PictureBuffer.{PictureBuffer}
 use Rattle.access_units.specs.AccessUnits.{AccessUnit}
@@ -28,8 +25,7 @@ use Rattle.access_units.specs.declared.acceptor.Acceptor.{Acceptor}
 use Rattle.access_units.specs.declared.acceptor.Next.{Next}
 use Rattle.access_units.specs.declared.acceptor.Next.TheVariants as next
 use Rattle.access_units.specs.declared.acceptor.Unsettled.{Unsettled}
-use Rattle.access_units.specs.declared.content.Named.{Named}
-use Rattle.file_pictures.specs.Files.{AreAllWhole, Decoded, IsReadTo, IsReadWhole, IsWholeBehind, pictures_in, references_of}
+use Rattle.file_pictures.specs.Files.{AreAllWhole, Decoded, IsReadTo, IsWholeBehind, pictures_in, references_of}
 use Rattle.file_pictures.specs.Offers.{AreKeptBehind, AreSamples, IsOffered, Offer, with_samples}
 use Rattle.file_pictures.specs.Streams.{GoesOn, IsBroken, IsKept, IsNextOne, IsStep, MayFeed, Shows, StandsFor, Stream, newest_sequence, no_stream, past_of, showing, streamed}
 use Rattle.file_pictures.specs.declared.stream_decoder.Step.TheVariants as step

@@ -1,5 +1,6 @@
 use Rattle.std.proofs.Common.{subst}
 use Rattle.access_units.specs.declared.acceptor.Next.{Next}
+use Rattle.file_pictures.specs.declared.stream_decoder.Step.TheVariants as step
 use Rattle.file_pictures.proofs.Answered.{next_stays, next_step}
 use Rattle.file_pictures.proofs.OneStep.{stays_if_last}
 use Rattle.file_pictures.proofs.Steps.{Answered, asked_past, end_step, hungry_step, picture_offered, refused_step}
@@ -40,7 +41,7 @@ pub returns-in-Refused-clause-stays : goal.returns-in-Refused-clause-stays
 returns-in-Refused-clause-stays c = λ stream stands.
     let A : Next → Type 0 = λ n. Answered c.args.self.now.acceptor c.next.new.self n in
     let answered = subst A c.in-Refused.is (record { answer = c.in_ok-next.ensures.answer; stands = c.in_ok-next.ensures.stands; decodable = c.in_ok-next.ensures.decodable }) in
-    stays_if_last stream _ _ (refused_step c.args.self.now c.next.new.self stream stands.whole c.in-Refused.offset c.in-Refused.large answered stands.state)
+    stays_if_last stream (step.Refused c.in-Refused.offset c.in-Refused.large) (record c.args.self.now { acceptor = c.next.new.self }) (refused_step c.args.self.now c.next.new.self stream stands.whole c.in-Refused.offset c.in-Refused.large answered stands.state)
 
 pub returns-in-Hungry-clause-step : goal.returns-in-Hungry-clause-step
 returns-in-Hungry-clause-step c = λ stream stands.
@@ -58,4 +59,4 @@ pub returns-in-End-clause-stays : goal.returns-in-End-clause-stays
 returns-in-End-clause-stays c = λ stream stands.
     let A : Next → Type 0 = λ n. Answered c.args.self.now.acceptor c.next.new.self n in
     let answered = subst A c.in-End.is (record { answer = c.in_ok-next.ensures.answer; stands = c.in_ok-next.ensures.stands; decodable = c.in_ok-next.ensures.decodable }) in
-    stays_if_last stream _ _ (end_step c.args.self.now c.next.new.self stream stands.whole answered stands.state)
+    stays_if_last stream step.End (record c.args.self.now { acceptor = c.next.new.self }) (end_step c.args.self.now c.next.new.self stream stands.whole answered stands.state)

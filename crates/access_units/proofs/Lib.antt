@@ -21,3 +21,10 @@ pub mod GiveSubmission
 pub mod GiveLemmas
 pub mod GiveOffer
 pub mod NewLemmas
+pub mod WholeSlices
+pub mod Onward
+pub mod OneContent
+pub mod OneGrouping
+pub mod OneList
+pub mod OneAnswer
+pub mod LastAnswer

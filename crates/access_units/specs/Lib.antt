@@ -13,3 +13,4 @@ pub mod Standing
 pub mod Taking
 pub mod Giving
 pub mod Gathering
+pub mod Answers

@@ -72,6 +72,7 @@ pub struct Acceptor {
 
 impl Acceptor {
     ghost use Rattle.access_units.specs.Acceptors.{IsAnswer, IsDecodableIn, MayAsk, MayFeed, Past, fed, no_past, settling};
+    ghost use Rattle.access_units.specs.Answers.{StaysIfLast};
     ghost use Rattle.access_units.specs.AccessUnits.{AccessUnit};
     ghost use Rattle.access_units.specs.Contents.{Told};
     ghost use Rattle.access_units.specs.Gathering.{HasTail, IsLookedThrough, ReadsFurther, Wants};
@@ -130,12 +131,14 @@ impl Acceptor {
         }
     }
 
-    /// The next picture, or what stands in its way.
+    /// The next picture, or what stands in its way. Behind the end, and behind a refusal, the same is answered
+    /// again, whatever is fed.
     pub fn next(&mut self) -> Result<Next, AllocError>
         requires { (past : Past) × StandsFor self.old past × MayAsk past }
         ensures answer { IfOk result (λ answer. (past : Past) → StandsFor self.old past → MayAsk past → IsAnswer past answer) }
         ensures stands { IfOk result (λ answer. (past : Past) → StandsFor self.old past → MayAsk past → StandsBehindAnswer self.new past answer) }
         ensures decodable { IfOk result (λ answer. (past : Past) → StandsFor self.old past → MayAsk past → IsDecodableIn past answer) }
+        ensures stays { IfOk result (λ answer. (past : Past) → StandsFor self.old past → MayAsk past → StaysIfLast past answer) }
         ensures untouched { OnErr result ((past : Past) → StandsFor self.old past → StandsFor self.new past) }
     {
         if self.has_failed {

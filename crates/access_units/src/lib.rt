@@ -14,4 +14,4 @@ mod sets;
 mod taking;
 
 pub use acceptor::{Acceptor, Next, Unsettled};
-pub use laws::sequences_have_one_set;
+pub use laws::{answers_are_one, sequences_have_one_set};

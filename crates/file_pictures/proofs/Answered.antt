@@ -17,22 +17,18 @@ use Rattle.picture_buffer.specs.Buffers.{Decodes, HasUnits, size_of, with_pictur
 use Rattle.picture_buffer.specs.Buffers as buffers
 use Rattle.picture_buffer.specs.Renaming.{IsOther, picture_of}
 use Rattle.picture_buffer.specs.declared.buffer.PictureBuffer.{PictureBuffer}
-use Rattle.access_units.specs.Acceptors as acceptors
 use Rattle.access_units.specs.Pictures.{Picture, payloads_of}
-use Rattle.access_units.specs.Standing as acceptor
-use Rattle.access_units.specs.declared.acceptor.Acceptor.{Acceptor}
-use Rattle.access_units.specs.declared.acceptor.Next.{Next}
-use Rattle.access_units.specs.declared.acceptor.Next.TheVariants as next
 use Rattle.access_units.specs.declared.acceptor.Unsettled.{Unsettled}
 use Rattle.file_pictures.specs.Files.{Decoded, references_of}
 use Rattle.file_pictures.specs.Offers.{AreKeptBehind, AreSamples, IsOffered, Offer, with_samples}
-use Rattle.file_pictures.specs.Streams.{HaveSize, IsKept, IsStep, Keeps, StandsFor, Stream, newest_sequence, past_of}
+use Rattle.file_pictures.specs.Streams.{HaveSize, IsKept, IsStep, Keeps, StandsFor, StaysIfLast, Stream, newest_sequence, past_of}
 use Rattle.file_pictures.specs.declared.stream_decoder.Step.{Step}
 use Rattle.file_pictures.specs.declared.stream_decoder.StreamDecoder.{StreamDecoder}
 use Rattle.file_pictures.proofs.Kept.{gone_on, keeps_more, kept_on, references_are, sized_on}
 use Rattle.file_pictures.proofs.Payloads.{slices_have_payloads}
-use Rattle.file_pictures.proofs.Steps.{comes_to, comes_to_none, may_ask, offered}
-use Rattle.file_pictures.proofs.WholeSlices.{next_slices}
+use Rattle.file_pictures.proofs.Steps.{comes_to, comes_to_none}
+use Rattle.file_pictures.proofs.OneStep.{stays_if_last}
+use Rattle.access_units.proofs.WholeSlices.{next_slices}
 
 -- ---- what the buffer is asked
 
@@ -104,18 +100,13 @@ module _ (decoder : StreamDecoder) (buffer new : PictureBuffer) (offer : Offer) 
 
 -- ---- the acceptor gave a picture
 
-pub picture_offered : (decoder : StreamDecoder) (a : Acceptor) (answer : Next) (unsettled : Unsettled) → answer ≡ next.Picture unsettled
-    → ((past : acceptors.Past) → acceptor.StandsFor decoder.acceptor past → acceptors.MayAsk past → acceptor.StandsBehindAnswer a past answer)
-    → ((past : acceptors.Past) → acceptor.StandsFor decoder.acceptor past → acceptors.MayAsk past → acceptors.IsDecodableIn past answer)
-    → (stream : Stream) → StandsFor decoder stream → (picture : Picture) × IsOffered (record decoder { acceptor = a }) (record { stream = stream; picture = picture }) unsettled
-picture_offered decoder a answer unsettled is stands decodable stream here =
-    let past = past_of stream in
-    let F : Next → Type 0 = λ n. acceptor.StandsBehindAnswer a past n in
-    let G : Next → Type 0 = λ n. acceptors.IsDecodableIn past n in
-    offered decoder a stream unsettled here (subst F is (stands past here.acceptor (may_ask stream))) (subst G is (decodable past here.acceptor (may_ask stream)))
-
 pub next_step : (r : Result Step AllocError) (decoder between new : StreamDecoder) (unsettled : Unsettled) → IfOk r (λ step. (offer : Offer) → IsOffered between offer unsettled → IsStep offer.stream step new)
     → ((stream : Stream) → StandsFor decoder stream → (picture : Picture) × IsOffered between (record { stream = stream; picture = picture }) unsettled)
     → IfOk r (λ step. (stream : Stream) → StandsFor decoder stream → IsStep stream step new)
 next_step (Ok step) decoder between new unsettled is given_by = λ stream stands. let o = given_by stream stands in is (record { stream = stream; picture = o.0 }) o.1
 next_step (Err e) decoder between new unsettled is given_by = is
+
+pub next_stays : (r : Result Step AllocError) (decoder new : StreamDecoder) → IfOk r (λ step. (stream : Stream) → StandsFor decoder stream → IsStep stream step new)
+    → IfOk r (λ step. (stream : Stream) → StandsFor decoder stream → StaysIfLast stream step)
+next_stays (Ok step) decoder new is = λ stream stands. stays_if_last stream step new (is stream stands)
+next_stays (Err e) decoder new is = is

@@ -1,12 +1,9 @@
-pub mod WholeSlices
 pub mod Payloads
 pub mod Kept
 pub mod Steps
 pub mod Onward
+pub mod OneStep
 pub mod Answered
-pub mod OneContent
-pub mod OneGrouping
-pub mod OneList
 pub mod OneDecoded
 pub mod OneReading
 pub mod SomeContent

@@ -18,9 +18,9 @@ use Rattle.access_units.specs.declared.content.Content.{Content}
 use Rattle.access_units.specs.declared.content.Content.TheVariants.{Other, PictureSet, Refused, SequenceSet, Slice, TooLarge}
 use Rattle.access_units.specs.declared.content.Named.{Named}
 use Rattle.file_pictures.specs.Files.{AreAllWhole, AreDecoded, Decoded, IsAcceptedPicture, IsWholeBehind, pictures_in, references_of}
-use Rattle.file_pictures.proofs.OneContent.{IsRead, IsReadContent, told_read}
-use Rattle.file_pictures.proofs.OneGrouping.{Settle, broken_place}
-use Rattle.file_pictures.proofs.Steps.{picture_one}
+use Rattle.access_units.proofs.OneAnswer.{picture_one}
+use Rattle.access_units.proofs.OneContent.{IsRead, IsReadContent, told_read}
+use Rattle.access_units.proofs.OneGrouping.{Settle, broken_place}
 
 -- ---- the sets of an access unit's first header can be read
 

@@ -3,13 +3,13 @@ use Rattle.std.proofs.Common.{◌≡◌, ℕ, inl, inr, true, List, [], ◌∷�
 use Rattle.std.proofs.lemmas.Bool.{cases_lt}
 use Rattle.std.proofs.lemmas.List.{append-nil, length-append}
 use Rattle.access_units.specs.AccessUnits.{AccessUnit}
-use Rattle.access_units.specs.Acceptors.{AreAll, IsSettled, IsTail}
+use Rattle.access_units.specs.Acceptors.{AreAll, IsSettled}
 use Rattle.access_units.specs.Pictures.{ArePictures}
 use Rattle.file_pictures.specs.Files.{AreAllWhole, AreDecoded, Decoded, Fault, HasPictures, IsAcceptedPicture, IsFirstRefused, IsRead, IsReadTo, IsReadWhole, IsTooLong, fault_of}
 use Rattle.file_pictures.proofs.OneDecoded.{AreReadUnits, decoded_one, head_of, last_read, settled_read, splits}
-use Rattle.file_pictures.proofs.OneGrouping.{all_settled, settled}
-use Rattle.file_pictures.proofs.OneList.{cases_of, share, share_whole}
-use Rattle.file_pictures.proofs.WholeSlices.{some_slices}
+use Rattle.access_units.proofs.OneGrouping.{all_settled, settled}
+use Rattle.access_units.proofs.OneList.{cases_of, share, whole_within}
+use Rattle.access_units.proofs.WholeSlices.{some_slices}
 
 whole_read : (text : List ℕ) (front : List AccessUnit) → AreAll text front → AreReadUnits front
 whole_read text front w = last_read w.tail front (settled_read text (w.tail ++ front) (all_settled text front w))
@@ -31,21 +31,6 @@ no_tail text front au decoded is are fine empty =
     let h = head_of au front decoded are in
     let first = h.is.picture.first in
     some_slices text true front au is (λ none. let e : Some h.is.picture.named ≡ None = sym first ∙ none in absurd (cc)) empty
-
-behind_tail : (t au : AccessUnit) (k front xs : List AccessUnit) → t.refused ≡ None → t.slices ≡ [] → (au.refused ≡ None → au.slices ≡ [] → ⊥) → t ∷ front ≡ k ++ au ∷ xs → (later : List AccessUnit) × (front ≡ later ++ au ∷ xs)
-behind_tail t au [] front xs fine empty some e =
-    let same : t ≡ au = cc in
-    absurd (some (subst (λ (x : AccessUnit). x.refused ≡ None) same fine) (subst (λ (x : AccessUnit). x.slices ≡ []) same empty))
-behind_tail t au (x ∷ k) front xs fine empty some e = (k, cc)
-
-behind_any : (tail k front xs : List AccessUnit) (au : AccessUnit) → IsTail tail → (au.refused ≡ None → au.slices ≡ [] → ⊥) → tail ++ front ≡ k ++ au ∷ xs → (later : List AccessUnit) × (front ≡ later ++ au ∷ xs)
-behind_any tail k front xs au (inl none) some e = (k, ap (λ (t : List AccessUnit). t ++ front) (sym none) ∙ e)
-behind_any tail k front xs au (inr one) some e = behind_tail one.0 au k front xs one.2 one.3 some (ap (λ (t : List AccessUnit). t ++ front) (sym one.1) ∙ e)
-
-whole_within : (text : List ℕ) (front xs : List AccessUnit) (au : AccessUnit) → AreAll text front → IsSettled text true xs au → (au.refused ≡ None → au.slices ≡ [] → ⊥) → (later : List AccessUnit) × (front ≡ later ++ au ∷ xs)
-whole_within text front xs au w is some =
-    let all = share_whole text front (au ∷ xs) w (settled text xs au is) in
-    behind_any w.tail all.0 front xs au w.is_tail some all.1
 
 -- ---- both read whole
 

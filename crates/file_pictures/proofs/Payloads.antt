@@ -7,7 +7,7 @@ use Rattle.std.proofs.Math.Seq.{take-append_seam, drop-append_seam}
 use Rattle.bit_io.specs.Payload.{IsFirstForbidden, is_forbidden, payload}
 use Rattle.nal_units.specs.Units.{Units, Part, IsPart, stream, places}
 use Rattle.access_units.specs.Pictures.{payloads_of, submission_of}
-use Rattle.file_pictures.proofs.WholeSlices.{IsWholeUnit}
+use Rattle.access_units.proofs.WholeSlices.{IsWholeUnit}
 use Rattle.decoder_render.specs.Submission.{ArePayloads, IsPayload, IsSpoiled, bytes_at, payload_at, place_at}
 
 parts_of : List (List ℕ) → List Part

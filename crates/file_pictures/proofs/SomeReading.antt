@@ -10,7 +10,7 @@ use Rattle.access_units.specs.AccessUnits.{AccessUnit, access_units, added_to, a
 use Rattle.access_units.specs.Contents.{AreTold, Told, places_of, sets_behind}
 use Rattle.access_units.specs.Pictures.{ArePictures}
 use Rattle.file_pictures.specs.Files.{AreAllWhole, AreDecoded, Decoded, Fault, HasPictures, IsAcceptedPicture, IsRead, IsTooLong, fault_of}
-use Rattle.file_pictures.proofs.OneGrouping.{all_units, broken_place, reverse_twice}
+use Rattle.access_units.proofs.OneGrouping.{all_units, broken_place, reverse_twice}
 use Rattle.file_pictures.proofs.SomeContent.{NotNone, and_then, either, given, tells_some}
 
 -- ---- what units tell

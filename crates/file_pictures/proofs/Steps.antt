@@ -1,5 +1,5 @@
 -- What a decoder answers follows from what the acceptor gives and what a picture's slices come to.
-use Rattle.std.proofs.Common.{◌≡◌, ◌≢◌, ℕ, ℤ, inl, inr, Bool, true, false, List, [], ◌∷◌, Option, Some, None, Result, Ok, refl, sym, ◌∙◌, ap, subst}
+use Rattle.std.proofs.Common.{◌≡◌, ◌≢◌, ℕ, ℤ, inl, inr, ◌⊎◌, Bool, true, false, List, [], ◌∷◌, Option, Some, None, refl, sym, ◌∙◌, ap, subst}
 use Rattle.std.specs.Prelude.{unwrap_or}
 use Rattle.std.specs.declared.alloc.Global.{Global}
 use Rattle.std.specs.declared.sync.Arc.{Arc}
@@ -13,10 +13,7 @@ use Rattle.decoder_render.specs.declared.outcome.Outcome.{Outcome}
 use Rattle.decoder_render.specs.declared.outcome.Outcome.TheVariants as outcome
 use Rattle.decoder_render.proofs.OneOutcome.{outcome_one}
 use Rattle.decoder_render.proofs.OneReading.{payloads_one}
-use Rattle.marking.specs.Begun.{begun_of}
 use Rattle.marking.specs.declared.begun.Begun.{Begun}
-use Rattle.marking.specs.declared.begun.MarkFault.{MarkFault}
-use Rattle.marking.specs.declared.marker.Marker.{Marker}
 use Rattle.vd_plane.specs.declared.picture.Picture as samples
 use Rattle.picture_buffer.specs.declared.buffer.PictureBuffer.{PictureBuffer}
 use Rattle.access_units.specs.AccessUnits.{AccessUnit}
@@ -25,74 +22,153 @@ use Rattle.access_units.specs.Pictures.{IsPicture, Picture, payloads_of, submiss
 use Rattle.access_units.specs.Sequences.{sequence_of}
 use Rattle.access_units.specs.Standing as acceptor
 use Rattle.access_units.specs.declared.acceptor.Acceptor.{Acceptor}
+use Rattle.access_units.specs.declared.acceptor.Next.{Next}
 use Rattle.access_units.specs.declared.acceptor.Next.TheVariants as next
 use Rattle.access_units.specs.declared.acceptor.Unsettled.{Unsettled}
-use Rattle.access_units.specs.declared.content.Named.{Named}
-use Rattle.file_pictures.specs.Files.{AreAllWhole, Decoded, IsReadTo, IsReadWhole, IsWholeBehind, pictures_in, references_of}
+use Rattle.file_pictures.specs.Files.{AreAllWhole, Decoded, IsReadTo, IsWholeBehind, pictures_in, references_of}
 use Rattle.file_pictures.specs.Offers.{AreKeptBehind, AreSamples, IsOffered, Offer, with_samples}
-use Rattle.file_pictures.specs.Streams.{IsKept, IsNextOne, MayFeed, Shows, StandsFor, Stream, newest_sequence, no_stream, past_of, showing, streamed}
+use Rattle.file_pictures.specs.Streams.{GoesOn, IsBroken, IsKept, IsNextOne, IsStep, MayFeed, Shows, StandsFor, Stream, newest_sequence, no_stream, past_of, showing, streamed}
+use Rattle.file_pictures.specs.declared.stream_decoder.Step.TheVariants as step
 use Rattle.file_pictures.specs.declared.stream_decoder.StreamDecoder.{StreamDecoder}
 use Rattle.file_pictures.proofs.Payloads.{slices_have_payloads}
-use Rattle.file_pictures.proofs.WholeSlices.{next_slices}
+use Rattle.access_units.proofs.LastAnswer.{next_on}
+use Rattle.access_units.proofs.OneAnswer.{picture_one}
+use Rattle.access_units.proofs.WholeSlices.{next_slices}
 
 -- ---- at the beginning
 
 pub begins : (decoder : StreamDecoder) → acceptor.StandsFor decoder.acceptor acceptors.no_past → decoder.buffer ≡ None → StandsFor decoder no_stream
 unfolding AreAllWhole sequence_of
 begins decoder stands empty = record {
-  acceptor = stands;
   whole = tt;
-  kept = subst (λ (buffer : Option PictureBuffer). IsKept buffer [] []) (sym empty) refl;
+  state = inl (record { acceptor = stands; kept = subst (λ (buffer : Option PictureBuffer). IsKept buffer [] []) (sym empty) refl });
 }
 
 -- ---- what is fed
 
+-- behind a picture whose slices came to no whole one
+abbrev broken_at : Stream → Picture → acceptors.Past
+broken_at stream picture = acceptors.settling (acceptors.giving (past_of stream) picture) false
+
+abbrev ComesToNone : List Decoded → Picture → Type 0
+ComesToNone decoded picture = (samples : samples.Picture) → ¬ IsWholeBehind decoded (record { picture = picture; samples = samples })
+
 pub feeds : (stream : Stream) (bytes : List ℕ) → MayFeed stream bytes → acceptors.MayFeed (past_of stream) bytes
 feeds stream bytes may = record { not_ended = may.not_ended; room = may.room }
 
-fed_stands : (a : Acceptor) (stream : Stream) (bytes : List ℕ) → acceptor.StandsFor a (acceptors.fed (past_of stream) bytes) → acceptor.StandsFor a (past_of (streamed stream bytes))
-fed_stands a stream [] stands = stands
-fed_stands a stream (byte ∷ bytes) stands = stands
+pub streamed_past : (stream : Stream) (bytes : List ℕ) → acceptors.fed (past_of stream) bytes ≡ past_of (streamed stream bytes)
+streamed_past stream [] = refl
+streamed_past stream (byte ∷ bytes) = refl
 
-same_decoded : (stream : Stream) (bytes : List ℕ) → stream.decoded ≡ (streamed stream bytes).decoded
+broken_past : (stream : Stream) (picture : Picture) (bytes : List ℕ) → acceptors.fed (broken_at stream picture) bytes ≡ broken_at (streamed stream bytes) picture
+broken_past stream picture [] = refl
+broken_past stream picture (byte ∷ bytes) = refl
+
+pub same_decoded : (stream : Stream) (bytes : List ℕ) → stream.decoded ≡ (streamed stream bytes).decoded
 same_decoded stream [] = refl
 same_decoded stream (byte ∷ bytes) = refl
 
-pub fed_stream : (decoder : StreamDecoder) (a : Acceptor) (stream : Stream) (bytes : List ℕ) → StandsFor decoder stream → acceptor.StandsFor a (acceptors.fed (past_of stream) bytes)
+pub next_fed : (stream : Stream) (bytes : List ℕ) (picture : Picture) → MayFeed stream bytes → acceptors.IsNext (past_of stream) picture → acceptors.IsNext (past_of (streamed stream bytes)) picture
+next_fed stream bytes picture may next =
+    subst (λ (p : acceptors.Past). acceptors.IsNext p picture) (streamed_past stream bytes) (next_on (past_of stream) bytes picture (feeds stream bytes may) next)
+
+fed_state : (decoder : StreamDecoder) (a : Acceptor) (stream : Stream) (bytes : List ℕ) → MayFeed stream bytes
+    → ((past : acceptors.Past) → acceptor.StandsFor decoder.acceptor past → acceptors.MayFeed past bytes → acceptor.StandsFor a (acceptors.fed past bytes))
+    → GoesOn decoder stream ⊎ IsBroken decoder stream → GoesOn (record decoder { acceptor = a }) (streamed stream bytes) ⊎ IsBroken (record decoder { acceptor = a }) (streamed stream bytes)
+fed_state decoder a stream bytes may fed (inl on) = inl (record {
+  acceptor = subst (λ (p : acceptors.Past). acceptor.StandsFor a p) (streamed_past stream bytes) (fed (past_of stream) on.acceptor (feeds stream bytes may));
+  kept = subst (λ (d : List Decoded). IsKept decoder.buffer d (newest_sequence d)) (same_decoded stream bytes) on.kept;
+})
+fed_state decoder a stream bytes may fed (inr broken) = inr (record {
+  picture = broken.picture;
+  next = next_fed stream bytes broken.picture may broken.next;
+  none = subst (λ (d : List Decoded). ComesToNone d broken.picture) (same_decoded stream bytes) broken.none;
+  acceptor = subst (λ (p : acceptors.Past). acceptor.StandsFor a p) (broken_past stream broken.picture bytes)
+      (fed (broken_at stream broken.picture) broken.acceptor (record { not_ended = may.not_ended; room = may.room }));
+})
+
+pub fed_stream : (decoder : StreamDecoder) (a : Acceptor) (stream : Stream) (bytes : List ℕ) → StandsFor decoder stream → MayFeed stream bytes
+    → ((past : acceptors.Past) → acceptor.StandsFor decoder.acceptor past → acceptors.MayFeed past bytes → acceptor.StandsFor a (acceptors.fed past bytes))
     → StandsFor (record decoder { acceptor = a }) (streamed stream bytes)
-fed_stream decoder a stream bytes stands fed =
-    let same = same_decoded stream bytes in
-    record {
-      acceptor = fed_stands a stream bytes fed;
-      whole = subst AreAllWhole same stands.whole;
-      kept = subst (λ (d : List Decoded). IsKept decoder.buffer d (newest_sequence d)) same stands.kept;
-    }
+fed_stream decoder a stream bytes stands may fed = record {
+  whole = subst AreAllWhole (same_decoded stream bytes) stands.whole;
+  state = fed_state decoder a stream bytes may fed stands.state;
+}
+
+unfed_state : (decoder : StreamDecoder) (a : Acceptor) (stream : Stream) → ((past : acceptors.Past) → acceptor.StandsFor decoder.acceptor past → acceptor.StandsFor a past)
+    → GoesOn decoder stream ⊎ IsBroken decoder stream → GoesOn (record decoder { acceptor = a }) stream ⊎ IsBroken (record decoder { acceptor = a }) stream
+unfed_state decoder a stream same (inl on) = inl (record { acceptor = same (past_of stream) on.acceptor; kept = on.kept })
+unfed_state decoder a stream same (inr broken) = inr (record {
+  picture = broken.picture;
+  next = broken.next;
+  none = broken.none;
+  acceptor = same (broken_at stream broken.picture) broken.acceptor;
+})
+
+pub unfed_stream : (decoder : StreamDecoder) (a : Acceptor) (stream : Stream) → StandsFor decoder stream → ((past : acceptors.Past) → acceptor.StandsFor decoder.acceptor past → acceptor.StandsFor a past)
+    → StandsFor (record decoder { acceptor = a }) stream
+unfed_stream decoder a stream stands same = record { whole = stands.whole; state = unfed_state decoder a stream same stands.state }
+
+-- a past of the acceptor to which this may be fed
+pub fed_past : (decoder : StreamDecoder) (stream : Stream) (bytes : List ℕ) → MayFeed stream bytes → GoesOn decoder stream ⊎ IsBroken decoder stream
+    → (past : acceptors.Past) × acceptor.StandsFor decoder.acceptor past × acceptors.MayFeed past bytes
+fed_past decoder stream bytes may (inl on) = (past_of stream, on.acceptor, feeds stream bytes may)
+fed_past decoder stream bytes may (inr broken) = (broken_at stream broken.picture, broken.acceptor, record { not_ended = may.not_ended; room = may.room })
 
 -- ---- the acceptor's answers
 
 pub may_ask : (stream : Stream) → acceptors.MayAsk (past_of stream)
 may_ask stream = λ none. absurd (cc)
 
-pub asked : (decoder : StreamDecoder) (a : Acceptor) (stream : Stream) → StandsFor decoder stream → acceptor.StandsFor a (past_of stream) → StandsFor (record decoder { acceptor = a }) stream
-asked decoder a stream stands here = record { acceptor = here; whole = stands.whole; kept = stands.kept }
+may_ask_broken : (stream : Stream) (picture : Picture) → acceptors.MayAsk (broken_at stream picture)
+may_ask_broken stream picture = λ none. absurd (cc)
 
--- a picture was given
-pub offered : (decoder : StreamDecoder) (a : Acceptor) (stream : Stream) (unsettled : Unsettled) → StandsFor decoder stream → acceptor.StandsBehindAnswer a (past_of stream) (next.Picture unsettled)
-    → acceptors.IsDecodable (past_of stream) unsettled → (picture : Picture) × IsOffered (record decoder { acceptor = a }) (record { stream = stream; picture = picture }) unsettled
-offered decoder a stream unsettled stands behind decodable = (
-  behind.0,
-  record {
-    acceptor = behind.3;
-    next = behind.1;
-    shows = behind.2;
-    decodable = decodable;
-    whole = stands.whole;
-    kept = stands.kept;
-  },
-)
+pub asked_past : (decoder : StreamDecoder) (stream : Stream) → GoesOn decoder stream ⊎ IsBroken decoder stream
+    → (past : acceptors.Past) × acceptor.StandsFor decoder.acceptor past × acceptors.MayAsk past
+asked_past decoder stream (inl on) = (past_of stream, on.acceptor, may_ask stream)
+asked_past decoder stream (inr broken) = (broken_at stream broken.picture, broken.acceptor, may_ask_broken stream broken.picture)
 
-pub at_end : (stream : Stream) → acceptors.IsAtEnd (past_of stream) → AreAllWhole stream.decoded → (stream.ended ≡ true) × IsReadWhole stream.text stream.decoded
-at_end stream end whole = (end.ended, record { front = end.front; all = end.all; accepted = record { pictures = end.pictures; whole = whole } })
+-- The acceptor answered this, and stands for it.
+pub record Answered (old new : Acceptor) (told : Next) : Type 0 where
+  pub answer : (past : acceptors.Past) → acceptor.StandsFor old past → acceptors.MayAsk past → acceptors.IsAnswer past told
+  pub stands : (past : acceptors.Past) → acceptor.StandsFor old past → acceptors.MayAsk past → acceptor.StandsBehindAnswer new past told
+  pub decodable : (past : acceptors.Past) → acceptor.StandsFor old past → acceptors.MayAsk past → acceptors.IsDecodableIn past told
+
+-- Behind a picture that came to no whole one nothing but a refusal is answered.
+no_more : (stream : Stream) (picture : Picture) → (broken_at stream picture).outcome ≡ Some true → ⊥
+no_more stream picture is = cc
+
+not_broken : (stream : Stream) → (past_of stream).outcome ≡ Some false → ⊥
+not_broken stream is = cc
+
+same_slices : (before : List Picture) (au : AccessUnit) (picture : Picture) → IsPicture before au picture → picture.slices ≡ au.slices
+same_slices before au picture is = ap (λ (p : Picture). p.slices) is.is
+
+same_offset : (before : List Picture) (au : AccessUnit) (picture : Picture) → IsPicture before au picture → picture.offset ≡ au.offset
+same_offset before au picture is = ap (λ (p : Picture). p.offset) is.is
+
+read_broken : (stream : Stream) (picture : Picture) (offset : ℕ) → AreAllWhole stream.decoded → (next : acceptors.IsNext (past_of stream) picture) → ComesToNone stream.decoded picture → offset ≡ picture.offset
+    → IsReadTo stream.text stream.ended stream.decoded (record { offset = offset; large = false })
+read_broken stream picture offset whole next none is =
+    let before = pictures_in stream.decoded in
+    let au = next.au in
+    let of_au : IsPicture before au picture = next.is in
+    let at : offset ≡ au.offset = is ∙ same_offset before au picture of_au in
+    let allowed : au.refused ≡ None = of_au.allowed in
+    let some = (next_slices (past_of stream) picture next).0 in
+    record {
+      front = next.up_next.front;
+      au = au;
+      settled = next.up_next.settled;
+      accepted = record { pictures = next.up_next.pictures; whole = whole };
+      refused = record {
+        not_decoded = λ one decoded.
+            let same : one.picture ≡ picture = picture_one before au one.picture picture decoded.picture of_au in
+            none one.samples (subst (λ (p : Picture). IsWholeBehind stream.decoded (record { picture = p; samples = one.samples })) same decoded.whole);
+        not_tail = λ fine empty. some (same_slices before au picture of_au ∙ empty);
+      };
+      fault_is = let large : false ≡ unwrap_or au.refused false = sym (ap (λ (o : Option Bool). unwrap_or o false) allowed) in cc;
+    }
 
 stopped : (stream : Stream) (offset : ℕ) (large : Bool) → acceptors.IsStopped (past_of stream) offset large → AreAllWhole stream.decoded
     → IsReadTo stream.text stream.ended stream.decoded (record { offset = offset; large = large })
@@ -108,10 +184,70 @@ stopped stream offset large is whole = record {
   fault_is = let at = is.offset_is in let size = is.large_is in cc;
 }
 
-pub refused : (stream : Stream) (offset : ℕ) (large : Bool) → acceptors.IsAnswer (past_of stream) (next.Refused offset large) → AreAllWhole stream.decoded
-    → IsReadTo stream.text stream.ended stream.decoded (record { offset = offset; large = large })
-refused stream offset large (inl failed) whole = let bad : Some true ≡ Some false = failed.0.outcome in absurd (cc)
-refused stream offset large (inr is) whole = stopped stream offset large is whole
+-- the last picture given is the one that came to no whole picture
+first_given : (a b : Picture) (xs ys : List Picture) → a ∷ xs ≡ b ∷ ys → a ≡ b
+first_given a b xs ys e = cc
+
+module _ (decoder : StreamDecoder) (a : Acceptor) (stream : Stream) (whole : AreAllWhole stream.decoded) where
+  on_stands : acceptor.StandsFor a (past_of stream) → GoesOn decoder stream → StandsFor (record decoder { acceptor = a }) stream
+  on_stands here on = record { whole = whole; state = inl (record { acceptor = here; kept = on.kept }) }
+
+  broken_stands : (broken : IsBroken decoder stream) → acceptor.StandsFor a (broken_at stream broken.picture) → StandsFor (record decoder { acceptor = a }) stream
+  broken_stands broken here = record { whole = whole; state = inr (record { picture = broken.picture; next = broken.next; none = broken.none; acceptor = here }) }
+
+  pub hungry_step : Answered decoder.acceptor a next.Hungry → GoesOn decoder stream ⊎ IsBroken decoder stream → IsStep stream step.Hungry (record decoder { acceptor = a })
+  hungry_step is (inl on) = (is.answer (past_of stream) on.acceptor (may_ask stream), on_stands (is.stands (past_of stream) on.acceptor (may_ask stream)) on)
+  hungry_step is (inr broken) = absurd (no_more stream broken.picture (is.answer (broken_at stream broken.picture) broken.acceptor (may_ask_broken stream broken.picture)).outcome)
+
+  pub end_step : Answered decoder.acceptor a next.End → GoesOn decoder stream ⊎ IsBroken decoder stream → IsStep stream step.End (record decoder { acceptor = a })
+  end_step is (inl on) =
+      let end = is.answer (past_of stream) on.acceptor (may_ask stream) in (
+        end.ended,
+        record { front = end.front; all = end.all; accepted = record { pictures = end.pictures; whole = whole } },
+        on_stands (is.stands (past_of stream) on.acceptor (may_ask stream)) on,
+      )
+  end_step is (inr broken) = absurd (no_more stream broken.picture (is.answer (broken_at stream broken.picture) broken.acceptor (may_ask_broken stream broken.picture)).outcome)
+
+  refused_on : (offset : ℕ) (large : Bool) → acceptors.IsAnswer (past_of stream) (next.Refused offset large) → IsReadTo stream.text stream.ended stream.decoded (record { offset = offset; large = large })
+  refused_on offset large (inl failed) = absurd (not_broken stream failed.0.outcome)
+  refused_on offset large (inr is) = stopped stream offset large is whole
+
+  refused_broken : (offset : ℕ) (large : Bool) (broken : IsBroken decoder stream) → acceptors.IsAnswer (broken_at stream broken.picture) (next.Refused offset large)
+      → IsReadTo stream.text stream.ended stream.decoded (record { offset = offset; large = large })
+  refused_broken offset large broken (inl failed) =
+      let last : broken.picture ≡ failed.0.last = first_given broken.picture failed.0.last (pictures_in stream.decoded) failed.0.before failed.0.given in
+      let at : offset ≡ broken.picture.offset = failed.0.offset_is ∙ sym (ap (λ (p : Picture). p.offset) last) in
+      subst (λ (l : Bool). IsReadTo stream.text stream.ended stream.decoded (record { offset = offset; large = l })) (sym failed.1) (read_broken stream broken.picture offset whole broken.next broken.none at)
+  refused_broken offset large broken (inr is) = absurd (no_more stream broken.picture is.outcome)
+
+  pub refused_step : (offset : ℕ) (large : Bool) → Answered decoder.acceptor a (next.Refused offset large) → GoesOn decoder stream ⊎ IsBroken decoder stream
+      → IsStep stream (step.Refused offset large) (record decoder { acceptor = a })
+  refused_step offset large is (inl on) = (
+    refused_on offset large (is.answer (past_of stream) on.acceptor (may_ask stream)),
+    on_stands (is.stands (past_of stream) on.acceptor (may_ask stream)) on,
+  )
+  refused_step offset large is (inr broken) =
+      let may = may_ask_broken stream broken.picture in
+      let past = broken_at stream broken.picture in
+      (refused_broken offset large broken (is.answer past broken.acceptor may), broken_stands broken (is.stands past broken.acceptor may))
+
+  -- a picture was given
+  pub picture_offered : (unsettled : Unsettled) → Answered decoder.acceptor a (next.Picture unsettled) → GoesOn decoder stream ⊎ IsBroken decoder stream
+      → (picture : Picture) × IsOffered (record decoder { acceptor = a }) (record { stream = stream; picture = picture }) unsettled
+  picture_offered unsettled is (inl on) =
+      let behind = is.stands (past_of stream) on.acceptor (may_ask stream) in (
+        behind.0,
+        record {
+          acceptor = behind.3;
+          next = behind.1;
+          shows = behind.2;
+          decodable = is.decodable (past_of stream) on.acceptor (may_ask stream);
+          whole = whole;
+          kept = on.kept;
+        },
+      )
+  picture_offered unsettled is (inr broken) =
+      absurd (no_more stream broken.picture (is.answer (broken_at stream broken.picture) broken.acceptor (may_ask_broken stream broken.picture)).1.outcome)
 
 -- ---- what the slices come to
 
@@ -180,9 +316,8 @@ shows_one decoder offer unsettled poc kept p is count value = record {
 stands_more : (old new : StreamDecoder) (offer : Offer) (unsettled : Unsettled) (p : samples.Picture) → IsOffered old offer unsettled → AreSamples offer (Some p) → AreKeptBehind new.buffer offer (Some p)
     → acceptor.StandsFor new.acceptor (acceptors.settling (acceptors.giving (past_of offer.stream) offer.picture) true) → StandsFor new (showing offer.stream (with_samples offer p))
 stands_more old new offer unsettled p is whole kept settled = record {
-  acceptor = settled;
   whole = all_whole_more (with_samples offer p) offer.stream.decoded is.whole whole;
-  kept = kept;
+  state = inl (record { acceptor = settled; kept = kept });
 }
 
 -- the answer is the next picture
@@ -198,52 +333,10 @@ gives old new offer unsettled poc shown is whole kept poc_is settled =
 
 -- ---- the picture isn't accepted
 
-begun_one : (m n : Marker) (a b : Named) (x y : Begun) → m ≡ n → a ≡ b → begun_of m a.sps a.pps a.header ≡ Ok x → begun_of n b.sps b.pps b.header ≡ Ok y → x ≡ y
-begun_one m n a b x y em en is also =
-    let f : Marker → Named → Result Begun MarkFault = λ m n. begun_of m n.sps n.pps n.header in
-    let same : f m a ≡ f n b = ap (λ (k : Marker). f k a) em ∙ ap (λ (k : Named). f n k) en in
-    let all : Ok x ≡ Ok y = sym is ∙ (same ∙ also) in
-    cc
-
--- an access unit is one picture at most
-pub picture_one : (before : List Picture) (au : AccessUnit) (a b : Picture) → IsPicture before au a → IsPicture before au b → a ≡ b
-picture_one before au a b is also =
-    let first = is.first in
-    let first' = also.first in
-    let named : is.named ≡ also.named = cc in
-    let behind = is.begins.behind in
-    let behind' = also.begins.behind in
-    let marker : is.begins.marker ≡ also.begins.marker = cc in
-    let begun : is.begun ≡ also.begun = begun_one is.begins.marker also.begins.marker is.named also.named is.begun also.begun marker named is.begins.begins also.begins.begins in
-    let is_a = is.is in
-    let is_b = also.is in
-    cc
-
-same_slices : (before : List Picture) (au : AccessUnit) (picture : Picture) → IsPicture before au picture → picture.slices ≡ au.slices
-same_slices before au picture is = ap (λ (p : Picture). p.slices) is.is
-
-same_offset : (before : List Picture) (au : AccessUnit) (picture : Picture) → IsPicture before au picture → picture.offset ≡ au.offset
-same_offset before au picture is = ap (λ (p : Picture). p.offset) is.is
-
-pub not_given : (decoder : StreamDecoder) (offer : Offer) (unsettled : Unsettled) → IsOffered decoder offer unsettled → AreSamples offer None
-    → IsReadTo offer.stream.text offer.stream.ended offer.stream.decoded (record { offset = unsettled.offset; large = false })
-not_given decoder offer unsettled is none =
-    let before = pictures_in offer.stream.decoded in
-    let au = is.next.au in
-    let of_au : IsPicture before au offer.picture = is.next.is in
-    let at : unsettled.offset ≡ au.offset = is.shows.offset ∙ same_offset before au offer.picture of_au in
-    let allowed : au.refused ≡ None = of_au.allowed in
-    let some = (next_slices (past_of offer.stream) offer.picture is.next).0 in
-    record {
-      front = is.next.up_next.front;
-      au = au;
-      settled = is.next.up_next.settled;
-      accepted = record { pictures = is.next.up_next.pictures; whole = is.whole };
-      refused = record {
-        not_decoded = λ one decoded.
-            let same : one.picture ≡ offer.picture = picture_one before au one.picture offer.picture decoded.picture of_au in
-            none one.samples (subst (λ (p : Picture). IsWholeBehind offer.stream.decoded (record { picture = p; samples = one.samples })) same decoded.whole);
-        not_tail = λ fine empty. some (same_slices before au offer.picture of_au ∙ empty);
-      };
-      fault_is = let large : false ≡ unwrap_or au.refused false = sym (ap (λ (o : Option Bool). unwrap_or o false) allowed) in cc;
-    }
+pub not_given : (old new : StreamDecoder) (offer : Offer) (unsettled : Unsettled) → IsOffered old offer unsettled → AreSamples offer None
+    → acceptor.StandsFor new.acceptor (acceptors.settling (acceptors.giving (past_of offer.stream) offer.picture) false)
+    → IsStep offer.stream (step.Refused unsettled.offset false) new
+not_given old new offer unsettled is none settled = (
+  read_broken offer.stream offer.picture unsettled.offset is.whole is.next none is.shows.offset,
+  record { whole = is.whole; state = inr (record { picture = offer.picture; next = is.next; none = none; acceptor = settled }) },
+)

@@ -1,5 +1,5 @@
 -- What a decoder of a file stands for, and what it answers.
-use Rattle.std.specs.Prelude.{◌≡◌, ℕ, ◌≤◌, Bool, true, false, List, [], ◌∷◌, ◌++◌, length, All, Option, Some, None}
+use Rattle.std.specs.Prelude.{◌≡◌, ℕ, ◌≤◌, Bool, true, false, List, [], ◌∷◌, ◌++◌, ◌⊎◌, length, All, Option, Some, None}
 use Rattle.std.specs.Arc.{arc_value}
 use Rattle.std.specs.List.{find}
 use Rattle.std.specs.Option.{option_map}
@@ -8,12 +8,12 @@ use Rattle.vd_plane.specs.declared.picture.Picture as samples
 use Rattle.picture_buffer.specs.Buffers as buffers
 use Rattle.picture_buffer.specs.declared.buffer.PictureBuffer.{PictureBuffer}
 use Rattle.access_units.specs.AccessUnits.{AccessUnit}
-use Rattle.access_units.specs.Acceptors.{IsHungry, IsSettled, Past}
+use Rattle.access_units.specs.Acceptors.{IsHungry, IsNext, IsSettled, Past, giving, settling}
 use Rattle.access_units.specs.Depth.{depth_of}
 use Rattle.access_units.specs.Pictures.{Picture, has_number, size_in}
 use Rattle.access_units.specs.Sequences.{sequence_of}
 use Rattle.access_units.specs.Standing as acceptor
-use Rattle.file_pictures.specs.Files.{AreAllWhole, AreDecoded, Decoded, IsAcceptedPicture, IsReadTo, IsReadWhole, has_own_number, pictures_in}
+use Rattle.file_pictures.specs.Files.{AreAllWhole, AreDecoded, Decoded, IsAcceptedPicture, IsReadTo, IsReadWhole, IsWholeBehind, has_own_number, pictures_in}
 use Rattle.file_pictures.specs.declared.stream_decoder.DecodedPicture.{DecodedPicture}
 use Rattle.file_pictures.specs.declared.stream_decoder.Step.{Step}
 use Rattle.file_pictures.specs.declared.stream_decoder.Step.TheVariants as step
@@ -68,11 +68,23 @@ newest_sequence decoded = sequence_of (pictures_in decoded)
 abbrev pub past_of : Stream → Past
 past_of stream = record { text = stream.text; ended = stream.ended; given = pictures_in stream.decoded; outcome = Some true }
 
+-- The acceptor stands for what was fed and given, and the buffer keeps what later pictures may refer to.
+pub record GoesOn (decoder : StreamDecoder) (stream : Stream) : Type 0 where
+  pub acceptor : acceptor.StandsFor decoder.acceptor (past_of stream)
+  pub kept : IsKept decoder.buffer stream.decoded (newest_sequence stream.decoded)
+
+-- The slices of the picture whose turn is next come to no whole picture, and the acceptor stands for that too. Nothing is decoded
+-- any more, and no buffer is needed.
+pub record IsBroken (decoder : StreamDecoder) (stream : Stream) : Type 0 where
+  pub picture : Picture
+  pub next : IsNext (past_of stream) picture
+  pub none : (samples : samples.Picture) → ¬ IsWholeBehind stream.decoded (record { picture = picture; samples = samples })
+  pub acceptor : acceptor.StandsFor decoder.acceptor (settling (giving (past_of stream) picture) false)
+
 -- The decoder stands for what was fed to it and given by it.
 pub record StandsFor (decoder : StreamDecoder) (stream : Stream) : Type 0 where
-  pub acceptor : acceptor.StandsFor decoder.acceptor (past_of stream)
   pub whole : AreAllWhole stream.decoded
-  pub kept : IsKept decoder.buffer stream.decoded (newest_sequence stream.decoded)
+  pub state : GoesOn decoder stream ⊎ IsBroken decoder stream
 
 -- ---- the answers
 
@@ -92,12 +104,30 @@ pub record IsNextOne (stream : Stream) (one : Decoded) : Type 0 where
   pub before : AreDecoded front stream.decoded
   pub decoded : IsAcceptedPicture stream.decoded au one
 
--- What is answered, and what the decoder stands for behind it; behind a refused access unit, and behind the end, it isn't asked again.
+-- What is answered, and what the decoder stands for behind it.
 abbrev pub IsStep : Stream → Step → StreamDecoder → Type 0
 IsStep stream step.Hungry decoder = IsHungry (past_of stream) × StandsFor decoder stream
 IsStep stream (step.Picture shown) decoder = (one : Decoded) × IsNextOne stream one × Shows shown one × StandsFor decoder (showing stream one)
-IsStep stream step.End decoder = (stream.ended ≡ true) × IsReadWhole stream.text stream.decoded
-IsStep stream (step.Refused offset large) decoder = IsReadTo stream.text stream.ended stream.decoded (record { offset = offset; large = large })
+IsStep stream step.End decoder = (stream.ended ≡ true) × IsReadWhole stream.text stream.decoded × StandsFor decoder stream
+IsStep stream (step.Refused offset large) decoder = IsReadTo stream.text stream.ended stream.decoded (record { offset = offset; large = large }) × StandsFor decoder stream
+
+-- These pieces are fed one after the other, each of them where bytes may be fed, and nothing else happens.
+abbrev pub IsStreamedOn : Stream → List (List ℕ) → Stream → Type 0
+IsStreamedOn stream [] later = later ≡ stream
+IsStreamedOn stream (bytes ∷ pieces) later = MayFeed stream bytes × IsStreamedOn (streamed stream bytes) pieces later
+
+-- Whatever is fed, a decoder that stands for it may answer this, and nothing else.
+abbrev pub Stays : Stream → Step → Type 0
+Stays stream answer =
+    (pieces : List (List ℕ)) (later : Stream) → IsStreamedOn stream pieces later
+    → ((decoder : StreamDecoder) → StandsFor decoder later → IsStep later answer decoder)
+    × ((other : Step) (decoder : StreamDecoder) → IsStep later other decoder → other ≡ answer)
+
+-- The end and a refusal are the last answers.
+abbrev pub StaysIfLast : Stream → Step → Type 0
+StaysIfLast stream step.Hungry = Unit {0}
+StaysIfLast stream (step.Picture shown) = Unit {0}
+StaysIfLast stream answer = Stays stream answer
 
 -- No more pictures may wait behind a picture than a waiting list takes.
 abbrev pub HasSmallDepth : Step → Type 0

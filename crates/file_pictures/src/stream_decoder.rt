@@ -44,8 +44,9 @@ pub enum Step {
 
 /// Decodes the pictures of a file whose bytes it is fed in pieces.
 ///
-/// It keeps the access unit in hand, and of the pictures those that later ones may refer to. After want of
-/// memory it isn't used again.
+/// It keeps the access unit in hand, and of the pictures those that later ones may refer to. Behind the end, and
+/// behind a refusal, it stands for what was fed and given as before, and answers the same whenever it is asked
+/// again. After want of memory it isn't used again.
 #[derive(Drop)]
 pub struct StreamDecoder {
     alloc: Global,
@@ -60,7 +61,7 @@ impl StreamDecoder {
     ghost use Rattle.picture_buffer.specs.Buffers.{size_of};
     ghost use Rattle.file_pictures.specs.Files.{Decoded};
     ghost use Rattle.file_pictures.specs.Offers.{AreKeptBehind, AreSamples, IsOffered, Offer};
-    ghost use Rattle.file_pictures.specs.Streams.{HasSmallDepth, HaveSize, IsKept, IsStep, Keeps, MayFeed, StandsFor, Stream, no_stream, streamed};
+    ghost use Rattle.file_pictures.specs.Streams.{HasSmallDepth, HaveSize, IsKept, IsStep, Keeps, MayFeed, StandsFor, StaysIfLast, Stream, no_stream, streamed};
 
     /// Nothing was fed.
     pub fn new(alloc: Global) -> StreamDecoder
@@ -87,6 +88,7 @@ impl StreamDecoder {
     pub fn next(&mut self) -> Result<Step, AllocError>
         requires { (stream : Stream) × StandsFor self.old stream }
         ensures step { IfOk result (λ step. (stream : Stream) → StandsFor self.old stream → IsStep stream step self.new) }
+        ensures stays { IfOk result (λ step. (stream : Stream) → StandsFor self.old stream → StaysIfLast stream step) }
         ensures depth { IfOk result HasSmallDepth }
     {
         match self.acceptor.next()? {

@@ -26,6 +26,7 @@ use Rattle.driver_core.specs.Stands.{Stands}
 use Rattle.driver_core.specs.declared.answer.CoreAnswer.{CoreAnswer}
 use Rattle.driver_core.specs.declared.answer.CoreAnswer.TheVariants.{Now}
 use Rattle.driver_core.specs.declared.driver.Core.{Core}
+use Rattle.picture_buffer.specs.Buffers.{AreZeros}
 use Rattle.picture_buffer.specs.Making.{HasMade, HasSurface, MakesSurface, first_device}
 use Rattle.picture_buffer.specs.Renaming.{handle_of}
 use Rattle.picture_buffer.specs.Rest.{IsAtRest, NamesSurface, decoder_at, surface_at}
@@ -166,6 +167,7 @@ module _ (old new : Core) (device decoder : ℕ) (size : SizeMbs) (surfaces : Li
           kind = c.kind ∙ ap kind_number c.is_new.2;
           sized = zeros_sized picture size (size_of_sides width height) c.is_new.1 same;
         };
+        zeros = subst (λ (z : SizeMbs). IsZeros picture z.width z.height) same c.is_new.1;
       }
 
   surface_still : (number : ℕ) → HasSurface made.state size (handle_of surfaces number) number → HasSurface next size (handle_of surfaces number) number
@@ -176,6 +178,7 @@ module _ (old new : Core) (device decoder : ℕ) (size : SizeMbs) (surfaces : Li
       kind = was.is.kind;
       sized = was.is.sized;
     };
+    zeros = was.zeros;
   }
 
   surface_more : handle_of surfaces count ≡ surface → HasMade new device decoder size surfaces (count + 1)
@@ -286,6 +289,15 @@ module _ (core : Core) (device decoder : ℕ) (size : SizeMbs) (surfaces : List 
   unfolding picture_by
   names_by number small (inl below) = (made.each number below).is
   names_by number small (inr large) = absurd (omega (arith, small, large))
+
+  zeros_by : (number : ℕ) (side : (number < 17) ⊎ (17 ≤ number)) → IsZeros (picture_by number side) size.width size.height
+  unfolding picture_by
+  zeros_by number (inl small) = (made.each number small).zeros
+  zeros_by number (inr large) = (made.each 0 (omega arith)).zeros
+
+  pub zeros_made : AreZeros size pictures_made
+  unfolding pictures_made
+  zeros_made number small = zeros_by number (cases_lt number 17)
 
   pub rests_when_made : IsAtRest core decoder surfaces size pictures_made made.state
   unfolding pictures_made

@@ -1,5 +1,5 @@
 -- What a buffer stands for: a picture for each number.
-use Rattle.std.specs.Prelude.{◌≡◌, ℕ, ◌==◌, if◌then◌else◌, List, length, map, Option}
+use Rattle.std.specs.Prelude.{◌≡◌, ℕ, ◌<◌, ◌==◌, if◌then◌else◌, List, length, map, Option}
 use Rattle.cb_types.specs.declared.picture_info.PictureInfo.{PictureInfo}
 use Rattle.cb_types.specs.declared.size.SizeMbs.{SizeMbs}
 use Rattle.decoder_render.specs.Coverage.{given}
@@ -7,6 +7,7 @@ use Rattle.decoder_render.specs.Outcomes.{IsOutcome}
 use Rattle.decoder_render.specs.Submission.{ArePayloads}
 use Rattle.decoder_render.specs.declared.outcome.Outcome.{Outcome}
 use Rattle.decoder_render.specs.declared.outcome.Outcome.TheVariants as outcome
+use Rattle.vd_plane.specs.Picture.{IsZeros}
 use Rattle.vd_plane.specs.declared.picture.Picture.{Picture}
 use Rattle.driver_model.specs.States.{State}
 use Rattle.picture_buffer.specs.Renaming.{picture_of}
@@ -20,6 +21,10 @@ size_of buffer = buffer.size
 pub record StandsFor (buffer : PictureBuffer) (pictures : ℕ → Picture) : Type 0 where
   pub state : State
   pub rests : IsAtRest buffer.core buffer.decoder buffer.surfaces buffer.size pictures state
+
+-- The pictures of all numbers have this size, and their samples are 0.
+abbrev pub AreZeros : SizeMbs → (ℕ → Picture) → Type 0
+AreZeros size pictures = (number : ℕ) → number < 17 → IsZeros (pictures number) size.width size.height
 
 -- the bytes have as many units as the info says
 pub record HasUnits (bytes : List ℕ) (info : PictureInfo) : Type 0 where

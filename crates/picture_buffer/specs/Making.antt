@@ -1,6 +1,7 @@
 -- What a new buffer's driver has made so far.
 use Rattle.std.specs.Prelude.{◌≡◌, ℕ, ◌+◌, ◌<◌, false, List, [], length, Some, Ok, Err, ⊤}
 use Rattle.cb_types.specs.declared.size.SizeMbs.{SizeMbs}
+use Rattle.vd_plane.specs.Picture.{IsZeros}
 use Rattle.vd_plane.specs.declared.picture.Picture.{Picture}
 use Rattle.vd_status.specs.declared.refusal.Refusal.TheVariants.{OutOfMemory}
 use Rattle.driver_model.specs.Objects.{Device, as_decoder, as_device}
@@ -16,10 +17,12 @@ use Rattle.picture_buffer.specs.Rest.{NamesSurface, decoder_at}
 abbrev pub first_device : Found Device
 first_device = record { place = 0; device = 0; value = record { time = 0; is_preempted = false } }
 
--- The handle names the surface of this number, which stands behind the device, the decoder and the surfaces of lower numbers.
+-- The handle names the surface of this number, which stands behind the device, the decoder and the surfaces of lower numbers. All
+-- its samples are 0.
 pub record HasSurface (d : State) (size : SizeMbs) (handle number : ℕ) : Type 0 where
   pub picture : Picture
   pub is : NamesSurface d handle (2 + number) 0 size picture
+  pub zeros : IsZeros picture size.width size.height
 
 -- The core stands for a state without running jobs that has a device, a decoder on it, and the surfaces of so many numbers, the
 -- lowest, and nothing else.

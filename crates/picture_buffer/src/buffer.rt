@@ -42,14 +42,14 @@ impl PictureBuffer {
     ghost use Rattle.driver_core.specs.Ended.{EndRender};
     ghost use Rattle.driver_core.specs.declared.answer.CoreAnswer.{CoreAnswer};
     ghost use Rattle.vd_plane.specs.declared.picture.Picture.{Picture};
-    ghost use Rattle.picture_buffer.specs.Buffers.{Decodes, HasUnits, SameSurfaces, StandsFor, size_of};
+    ghost use Rattle.picture_buffer.specs.Buffers.{AreZeros, Decodes, HasUnits, SameSurfaces, StandsFor, size_of};
     ghost use Rattle.picture_buffer.specs.Renaming.{IsOther};
 
     /// A buffer for pictures of this size. All samples are 0.
     pub fn new(alloc: Global, size: SizeMbs) -> Result<PictureBuffer, AllocError>
         requires { IsWithinLimits size }
         ensures size { IfOk result (λ buffer. size_of buffer ≡ size) }
-        ensures stands { IfOk result (λ buffer. (pictures : ℕ → Picture) × StandsFor buffer pictures) }
+        ensures stands { IfOk result (λ buffer. (pictures : ℕ → Picture) × StandsFor buffer pictures × AreZeros size pictures) }
     {
         let mut core = Core::new(alloc)?;
         let (device, decoder) = make_decoder(&mut core, alloc, size)?;

@@ -125,8 +125,8 @@ answers_of old now known stream (step.Picture shown) reads at ended piece fed is
     moved : (k : Option (List ℕ)) → IfSome k (IsFrontOf stream) → IfSome k (IsFrontOf (showing stream is.0))
     moved None b = tt
     moved (Some file) b = record { front = b.front; whole = b.whole }
-answers_of old now known stream step.End reads at ended piece fed is = is
-answers_of old now known stream (step.Refused offset large) reads at ended piece fed is = is
+answers_of old now known stream step.End reads at ended piece fed is = (is.0, is.1)
+answers_of old now known stream (step.Refused offset large) reads at ended piece fed is = is.0
 
 pub answered : (old now : FileReader) (known : Option (List ℕ)) (decoded : List Decoded) (answer : Step) → ReadsOn old known decoded → now.at ≡ old.at → now.ended ≡ old.ended → vec_len now.piece ≡ vec_len old.piece
     → (answer ≡ step.Hungry → ⊥) → ((stream : Stream) → StandsFor old.decoder stream → IsStep stream answer now.decoder) → IsAnswer known decoded answer now

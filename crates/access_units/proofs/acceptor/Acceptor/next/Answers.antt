@@ -1,10 +1,13 @@
-use Rattle.std.proofs.Common.{◌≡◌, Bool, true, Some, inl, refl, subst, sym}
+use Rattle.std.proofs.Common.{◌≡◌, Bool, true, false, Some, inl, refl, subst, sym}
 use Rattle.std.specs.Prelude.{Err, IfOk, Ok, OnErr, Result}
 use Rattle.access_units.specs.Acceptors.{IsAnswer, IsDecodableIn, MayAsk, Past}
+use Rattle.access_units.specs.Answers.{StaysIfLast}
 use Rattle.access_units.specs.Standing.{StandsBehindAnswer, StandsFor}
 use Rattle.access_units.specs.declared.acceptor.Acceptor.{Acceptor}
 use Rattle.access_units.specs.declared.acceptor.Next.{Next}
+use Rattle.access_units.specs.declared.acceptor.Next.TheVariants as next
 use Rattle.access_units.proofs.AskLemmas.{accepted, failed, stands_on}
+use Rattle.access_units.proofs.LastAnswer.{stays_if_last}
 use Rattle.access_units.proofs.acceptor.Acceptor.next.Goals as goal
 
 on_err : {T E : Type 0} (r : Result T E) (P : Type 0) → P → OnErr r P
@@ -17,6 +20,11 @@ if_ok (Err fault) P Q f holds = tt
 
 pub returns-then-self-clause-answer : goal.returns-then-self-clause-answer
 returns-then-self-clause-answer c = λ past s may. inl (failed c.args.self.now past s c.if-self.true, refl)
+
+pub returns-then-self-clause-stays : goal.returns-then-self-clause-stays
+returns-then-self-clause-stays c = λ past s may.
+    let answer : Next = next.Refused c.args.self.now.last_offset false in
+    stays_if_last past answer (inl (failed c.args.self.now past s c.if-self.true, refl))
 
 pub returns-in_err-gather-clause-untouched : goal.returns-in_err-gather-clause-untouched
 returns-in_err-gather-clause-untouched c =
@@ -36,6 +44,13 @@ returns-then-not-branch-clause-stands c = λ past s may.
 
 pub returns-then-not-branch-clause-decodable : goal.returns-then-not-branch-clause-decodable
 returns-then-not-branch-clause-decodable c = λ past s may. c.wanting.ensures.decodable past
+
+pub returns-then-not-branch-clause-stays : goal.returns-then-not-branch-clause-stays
+returns-then-not-branch-clause-stays c = λ past s may.
+    stays_if_last past c.wanting.result
+    (c.wanting.ensures.answer past
+    (stands_on c.args.self.now c.gather.new.self past s c.gather.ensures.rest (c.gather.ensures.reads past.text past.ended s.told s.broken s.opened s.hand s.front s.reads))
+    (accepted c.args.self.now past s may c.if-self.false))
 
 pub give-requires-clause-past : goal.give-requires-clause-past
 give-requires-clause-past c =
@@ -78,6 +93,17 @@ returns-clause-decodable c =
     (stands_on c.args.self.now c.gather.new.self past s c.gather.ensures.rest (c.gather.ensures.reads past.text past.ended s.told s.broken s.opened s.hand s.front s.reads))
     (accepted c.args.self.now past s may c.if-self.false))
     c.give.ensures.decodable
+
+pub returns-clause-stays : goal.returns-clause-stays
+returns-clause-stays c =
+    if_ok c.give.result
+    (λ (answer : Next). (past : Past) → StandsFor c.gather.new.self past → past.outcome ≡ Some true → IsAnswer past answer)
+    (λ (answer : Next). (past : Past) → StandsFor c.args.self.now past → MayAsk past → StaysIfLast past answer)
+    (λ answer holds past s may. stays_if_last past answer
+    (holds past
+    (stands_on c.args.self.now c.gather.new.self past s c.gather.ensures.rest (c.gather.ensures.reads past.text past.ended s.told s.broken s.opened s.hand s.front s.reads))
+    (accepted c.args.self.now past s may c.if-self.false)))
+    c.give.ensures.answer
 
 untouched_on : {E : Type 0} (r : Result Next E) (old mid new : Acceptor) → OnErr r (new ≡ mid) → ((past : Past) → StandsFor old past → StandsFor mid past) → OnErr r ((past : Past) → StandsFor old past → StandsFor new past)
 untouched_on (Ok answer) old mid new same on = tt

@@ -12,10 +12,10 @@ use Rattle.file_pictures.specs.Streams.{HaveSize, IsKept, Keeps}
 use Rattle.file_pictures.proofs.Kept.{keeps_fresh}
 use Rattle.file_pictures.proofs.stream_decoder.StreamDecoder.buffer_for.Goals as goal
 
-fresh_step : (r : Result PictureBuffer AllocError) (old : Option PictureBuffer) (size : SizeMbs) → IfOk r (λ new. (kept : ℕ → samples.Picture) × buffers.StandsFor new kept)
+fresh_step : (r : Result PictureBuffer AllocError) (old : Option PictureBuffer) (size : SizeMbs) → IfOk r (λ new. (kept : ℕ → samples.Picture) × buffers.StandsFor new kept × buffers.AreZeros size kept)
     → ((buffer : PictureBuffer) → old ≡ Some buffer → buffers.size_of buffer ≢ size)
     → IfOk r (λ new. (decoded : List Decoded) (sequence : List Picture) → IsKept old decoded sequence → HaveSize size sequence → Keeps new decoded sequence)
-fresh_step (Ok new) old size stands other = keeps_fresh new old size stands other
+fresh_step (Ok new) old size stands other = keeps_fresh new old size (stands.0, stands.1) other
 fresh_step (Err e) old size stands other = stands
 
 other_one : (old : Option PictureBuffer) (buffer : PictureBuffer) (size : SizeMbs) → old ≡ Some buffer → buffers.size_of buffer ≢ size → (one : PictureBuffer) → old ≡ Some one → buffers.size_of one ≢ size

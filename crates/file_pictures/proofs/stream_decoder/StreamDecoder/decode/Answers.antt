@@ -25,4 +25,6 @@ returns-in-Some-clause-step c = λ offer is.
 pub returns-in-None-clause-step : goal.returns-in-None-clause-step
 returns-in-None-clause-step c = λ offer is.
     let A : Option (Arc samples.Picture Global) → Type 0 = λ come. AreSamples offer (option_map arc_value come) in
-    not_given c.args.self.now offer c.args.unsettled is (subst A c.in-None.is (c.in_ok-samples.ensures.samples offer is))
+    let S : Acceptor → Type 0 = λ a. acceptor.StandsFor a (acceptors.giving (past_of offer.stream) offer.picture) in
+    let stands = subst S (sym c.in_ok-samples.ensures.acceptor) is.acceptor in
+    not_given c.args.self.now _ offer c.args.unsettled is (subst A c.in-None.is (c.in_ok-samples.ensures.samples offer is)) (c.settle-in-None.ensures _ stands refl)

@@ -1,13 +1,13 @@
 -- The access units that a text settles, in two ways, are the last of one list.
-use Rattle.std.proofs.Common.{◌≡◌, ℕ, ◌≤◌, inl, inr, ◌⊎◌, List, [], ◌∷◌, ◌++◌, length, Option, None, sym, ap, ◌∙◌, append_assoc, arith}
+use Rattle.std.proofs.Common.{◌≡◌, ℕ, ◌≤◌, inl, inr, ◌⊎◌, true, List, [], ◌∷◌, ◌++◌, length, Option, None, sym, ap, subst, ◌∙◌, append_assoc, arith}
 use Rattle.std.proofs.lemmas.Bool.{cases_lt}
 use Rattle.std.proofs.lemmas.List.{length-append}
 use Rattle.nal_units.proofs.Advancing.{text_has_units}
 use Rattle.nal_units.proofs.Unique.{units_unique}
 use Rattle.access_units.specs.AccessUnits.{AccessUnit, access_units, grouped}
-use Rattle.access_units.specs.Acceptors.{AreAll}
+use Rattle.access_units.specs.Acceptors.{AreAll, IsSettled, IsTail}
 use Rattle.access_units.specs.Contents.{AreTold, Told, places_of}
-use Rattle.file_pictures.proofs.OneGrouping.{Settle, all_first, all_units, broken_place, ends_in, fewer_first, length_places, same_units}
+use Rattle.access_units.proofs.OneGrouping.{Settle, all_first, all_units, broken_place, ends_in, fewer_first, length_places, same_units, settled}
 
 -- Both are the last of one list.
 pub record Share (xs ys : List AccessUnit) : Type 0 where
@@ -82,6 +82,24 @@ share_whole text front xs w a =
           (all.1.0, sym whole ∙ ap (λ (t : List Told). access_units t (broken_place text)) (sym one) ∙ all.1.1)
     ]
 
+-- ---- what stands before the tail of a text
+
+behind_tail : (t au : AccessUnit) (k front xs : List AccessUnit) → t.refused ≡ None → t.slices ≡ [] → (au.refused ≡ None → au.slices ≡ [] → ⊥) → t ∷ front ≡ k ++ au ∷ xs → (later : List AccessUnit) × (front ≡ later ++ au ∷ xs)
+behind_tail t au [] front xs fine empty some e =
+    let same : t ≡ au = cc in
+    absurd (some (subst (λ (x : AccessUnit). x.refused ≡ None) same fine) (subst (λ (x : AccessUnit). x.slices ≡ []) same empty))
+behind_tail t au (x ∷ k) front xs fine empty some e = (k, cc)
+
+behind_any : (tail k front xs : List AccessUnit) (au : AccessUnit) → IsTail tail → (au.refused ≡ None → au.slices ≡ [] → ⊥) → tail ++ front ≡ k ++ au ∷ xs → (later : List AccessUnit) × (front ≡ later ++ au ∷ xs)
+behind_any tail k front xs au (inl none) some e = (k, ap (λ (t : List AccessUnit). t ++ front) (sym none) ∙ e)
+behind_any tail k front xs au (inr one) some e = behind_tail one.0 au k front xs one.2 one.3 some (ap (λ (t : List AccessUnit). t ++ front) (sym one.1) ∙ e)
+
+-- An access unit that is settled, and isn't the tail of the text, is one of those before the tail.
+pub whole_within : (text : List ℕ) (front xs : List AccessUnit) (au : AccessUnit) → AreAll text front → IsSettled text true xs au → (au.refused ≡ None → au.slices ≡ [] → ⊥) → (later : List AccessUnit) × (front ≡ later ++ au ∷ xs)
+whole_within text front xs au w is some =
+    let all = share_whole text front (au ∷ xs) w (settled text xs au is) in
+    behind_any w.tail all.0 front xs au w.is_tail some all.1
+
 -- ---- lists with one end
 
 -- Of two lists that are the last of one list, one is the last of the other.
@@ -92,3 +110,14 @@ last_of (x ∷ l) (y ∷ m) xs ys e = last_of l m xs ys (cc)
 
 pub cases_of : (xs ys : List AccessUnit) → Share xs ys → ((k : List AccessUnit) × (xs ≡ k ++ ys)) ⊎ ((k : List AccessUnit) × (ys ≡ k ++ xs))
 cases_of xs ys s = last_of s.left s.right xs ys (sym s.of_left ∙ s.of_right)
+
+-- Where they are as long, they are one.
+same_list : (k xs ys : List AccessUnit) → xs ≡ k ++ ys → length xs ≡ length ys → xs ≡ ys
+same_list [] xs ys e long = e
+same_list (au ∷ k) xs ys e long = absurd (omega (arith, ap length e, long, length-append (au ∷ k) ys))
+
+pub one_list : (xs ys : List AccessUnit) → Share xs ys → length xs ≡ length ys → xs ≡ ys
+one_list xs ys s long = elim (cases_of xs ys s) [
+  | inl first ↦ same_list first.0 xs ys first.1 long
+  | inr other ↦ sym (same_list other.0 ys xs other.1 (sym long))
+]

@@ -12,7 +12,7 @@ use Rattle.nal_units.proofs.Unique.{units_unique}
 use Rattle.access_units.specs.AccessUnits.{AccessUnit, access_units, added_to, begins_another, broken_off, grouped, refused_at_end, unit_alone, with_unit}
 use Rattle.access_units.specs.Acceptors.{AreAll, AreFirst, IsAtAnEnd, IsSettled}
 use Rattle.access_units.specs.Contents.{AreTold, Told, places_of, sets_behind, Tells}
-use Rattle.file_pictures.proofs.OneContent.{tells_one}
+use Rattle.access_units.proofs.OneContent.{tells_one}
 
 -- ---- the units at places tell one thing
 
@@ -100,7 +100,7 @@ added_more [] xs last unit = by_test (begins_another last unit) (unit_alone unit
 added_more (au ∷ more) xs last unit =
     by_test (begins_another au unit) (unit_alone unit ∷ au ∷ (more ++ last ∷ xs)) (with_unit au unit ∷ (more ++ last ∷ xs)) xs (unit_alone unit ∷ au ∷ more, last, refl) (with_unit au unit ∷ more, last, refl)
 
-grouped_more : (later told : List Told) (xs : List AccessUnit) (last : AccessUnit) → grouped told ≡ last ∷ xs → EndsIn (grouped (later ++ told)) xs
+pub grouped_more : (later told : List Told) (xs : List AccessUnit) (last : AccessUnit) → grouped told ≡ last ∷ xs → EndsIn (grouped (later ++ told)) xs
 unfolding grouped
 grouped_more [] told xs last is = ([], last, is)
 grouped_more (unit ∷ later) told xs last is =

@@ -21,6 +21,7 @@ pub struct Pass {
 
 /// What a call answers: the pass comes back, and `place` is the number of the call's entry in the one history,
 /// counted from 0.
+#[derive(Drop)]
 pub struct Answered<T> {
     pub pass: Pass,
     pub place: u64,

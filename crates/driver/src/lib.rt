@@ -16,6 +16,8 @@ mod mixers;
 mod output_surfaces;
 mod queues;
 mod status;
+#[cfg(test)]
+mod tests;
 mod turns;
 mod video_surfaces;
 mod wishes;

@@ -143,7 +143,10 @@ fn tick_twice<R: Wait>(
         return (first.pass, None);
     }
     let second = driver.advance(rt, alloc, first.pass, device, 2, &mut flips);
-    let count = second.result.ok().map(|()| shown.saturating_add(flips.len()));
+    let count = second
+        .result
+        .ok()
+        .map(|()| shown.saturating_add(flips.len()));
     (second.pass, count)
 }
 
@@ -183,7 +186,9 @@ fn wait_and_tick<R: Threads + Wait + Sync>(
 #[test]
 fn a_caller_waits_until_another_ticks(rt: HostRuntime) -> Result<(), Fail> {
     let (driver, pass) = Driver::new(rt.alloc())?;
-    let waiting = display_two(&rt, rt.alloc(), &driver, pass).ok().ok_or("nothing is refused")?;
+    let waiting = display_two(&rt, rt.alloc(), &driver, pass)
+        .ok()
+        .ok_or("nothing is refused")?;
     let (idle, flips) = wait_and_tick(&rt, rt.alloc(), &driver, waiting);
     assert_eq!(rt; idle, Ok(1), "the surface was shown at 1, and at 2 no more");
     assert_eq!(rt; flips, Some(2));

@@ -73,51 +73,25 @@ fn write(alloc: Global, elements: &str) -> Text {
     in_hex(alloc, writer.bytes())
 }
 
+// An element that has no codeword is passed over.
 fn put(writer: &mut BitWriter, element: &str) -> Result<(), AllocError> {
     let (name, argument) = split(element, ':');
     let (first, second) = split(argument, ':');
     let n = number(first);
+    let value = number(second);
     match name {
-        "u" => put_u(writer, number(second), n),
-        "ue" => put_ue(writer, n),
-        "se" => put_se(writer, signed(first)),
-        "te" => put_te(writer, number(second), n),
-        "taken_back_ue" => {
+        "u" if n < 32 && value < 1 << n => writer.put_u(value, n),
+        "ue" if n < u32::MAX => writer.put_ue(n),
+        "se" if signed(first) > i32::MIN => writer.put_se(signed(first)),
+        "te" if 1 <= n && value <= n && value < u32::MAX => writer.put_te(value, n),
+        "taken_back_ue" if n < u32::MAX => {
             let mark = writer.mark();
-            put_ue(writer, n)?;
+            writer.put_ue(n)?;
             writer.back_to(mark);
             Ok(())
         }
         _ => Ok(()),
     }
-}
-
-fn put_u(writer: &mut BitWriter, value: u32, n: u32) -> Result<(), AllocError> {
-    if n < 32 && value < 1 << n {
-        return writer.put_u(value, n);
-    }
-    Ok(())
-}
-
-fn put_ue(writer: &mut BitWriter, value: u32) -> Result<(), AllocError> {
-    if value < u32::MAX {
-        return writer.put_ue(value);
-    }
-    Ok(())
-}
-
-fn put_se(writer: &mut BitWriter, value: i32) -> Result<(), AllocError> {
-    if value > i32::MIN {
-        return writer.put_se(value);
-    }
-    Ok(())
-}
-
-fn put_te(writer: &mut BitWriter, value: u32, greatest: u32) -> Result<(), AllocError> {
-    if 1 <= greatest && value <= greatest && value < u32::MAX {
-        return writer.put_te(value, greatest);
-    }
-    Ok(())
 }
 
 fn escaped(alloc: Global, bytes: &str) -> Text {

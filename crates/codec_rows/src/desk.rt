@@ -1,7 +1,9 @@
 // What lines change, and the calls that they name.
 use crate::line::Line;
 use crate::told::Text;
-use crate::{bits, pictures, planes, predictions, renders, sets, slices, tables, transforms, types, units};
+use crate::{
+    bits, pictures, planes, predictions, renders, sets, slices, tables, transforms, types, units,
+};
 use std::alloc::{AllocError, Global};
 use vd_plane::{Picture, Plane};
 

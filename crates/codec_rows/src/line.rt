@@ -23,9 +23,7 @@ impl Line<'_> {
         let (eighth, _) = split(text, ' ');
         Line {
             name,
-            words: [
-                first, second, third, fourth, fifth, sixth, seventh, eighth,
-            ],
+            words: [first, second, third, fourth, fifth, sixth, seventh, eighth],
         }
     }
 }

@@ -18,12 +18,15 @@ pub fn answer(alloc: Global, plane: &mut Plane, line: Line<'_>) -> Option<Text> 
         "plane" => Some(made(alloc, plane, a, b, c)),
         "put_rect" => Some(put_rect(alloc, plane, [a, b, c, d], fifth)),
         "set" => Some(set(alloc, plane, a, b, c)),
-        "at" => Some(shown(alloc, at(plane, a, b))),
+        "at" if a < plane.width() && b < plane.height() => {
+            Some(shown(alloc, Some(plane.at(a, b))))
+        }
         "clamped" => Some(shown(alloc, Some(plane.clamped(place(first), place(second))))),
         "clamped_rect" => Some(clamped_rect(alloc, plane, place(first), place(second), [c, d])),
         "row" => Some(row(alloc, plane, a)),
-        "luma" => Some(luma_text(alloc, plane, place(first), place(second), [c, d])),
-        "chroma" => Some(chroma_text(alloc, plane, place(first), place(second), [c, d])),
+        "luma" | "chroma" => {
+            Some(predicted(alloc, plane, line.name, place(first), place(second), [c, d]))
+        }
         "weigh" => Some(weighed(alloc, first, b, signed(third), signed(fourth))),
         _ => None,
     }
@@ -65,14 +68,6 @@ fn set(alloc: Global, plane: &mut Plane, x: u32, y: u32, value: u32) -> Text {
     format!(in alloc; "done")
 }
 
-fn at(plane: &Plane, x: u32, y: u32) -> Option<u8> {
-    if x < plane.width() && y < plane.height() {
-        Some(plane.at(x, y))
-    } else {
-        None
-    }
-}
-
 fn clamped_rect(alloc: Global, plane: &Plane, x: i64, y: i64, sides: [u32; 2]) -> Text {
     let [width, height] = sides;
     let width = width.min(16);
@@ -90,23 +85,18 @@ fn row(alloc: Global, plane: &Plane, y: u32) -> Text {
     format!(in alloc; "{row:?}")
 }
 
-fn luma_text(alloc: Global, plane: &Plane, x: i64, y: i64, sides: [u32; 2]) -> Text {
+// Samples of luma, or of chroma.
+fn predicted(alloc: Global, plane: &Plane, name: &str, x: i64, y: i64, sides: [u32; 2]) -> Text {
     let [width, height] = sides;
     let width = width.max(1).min(16);
     let height = height.max(1).min(16);
     let mut samples = zeros(alloc, width, height)?;
-    if x.unsigned_abs() <= 65_536 && y.unsigned_abs() <= 65_536 {
-        luma(plane, x, y, width, height, &mut samples);
+    if x.unsigned_abs() > 65_536 || y.unsigned_abs() > 65_536 {
+        return format!(in alloc; "too far");
     }
-    format!(in alloc; "{samples:?}")
-}
-
-fn chroma_text(alloc: Global, plane: &Plane, x: i64, y: i64, sides: [u32; 2]) -> Text {
-    let [width, height] = sides;
-    let width = width.max(1).min(16);
-    let height = height.max(1).min(16);
-    let mut samples = zeros(alloc, width, height)?;
-    if x.unsigned_abs() <= 65_536 && y.unsigned_abs() <= 65_536 {
+    if name == "luma" {
+        luma(plane, x, y, width, height, &mut samples);
+    } else {
         chroma(plane, x, y, width, height, &mut samples);
     }
     format!(in alloc; "{samples:?}")

@@ -10,6 +10,7 @@ use std::alloc::Global;
 pub fn answer(alloc: Global, line: Line<'_>) -> Option<Text> {
     let [first, second, third, fourth, fifth, sixth, seventh, _] = line.words;
     let mode = number(first);
+    let index = number(second);
     let corner = fourth.parse().ok();
     match line.name {
         "predict4" => Some(block4(alloc, mode, [second, third, fourth], fifth)),
@@ -21,12 +22,21 @@ pub fn answer(alloc: Global, line: Line<'_>) -> Option<Text> {
             let block = predict_chroma(mode, eight(second), eight(third), corner);
             Some(hex_or_none(alloc, &block))
         }
-        "vector" => {
-            let near = [near_of(fourth), near_of(fifth), near_of(sixth), near_of(seventh)];
-            Some(shown(alloc, vector_of(mode, number(second), number(third), near)))
+        "vector" if mode <= 2 && index <= 1 => {
+            let a = near_of(fourth);
+            let b = near_of(fifth);
+            let c = near_of(sixth);
+            let d = near_of(seventh);
+            let vector = predict(mode, index, number(third), a, b, c, d);
+            Some(shown(alloc, Some((vector.x, vector.y))))
         }
         "skip_vector" => {
-            let vector = skip(near_of(first), near_of(second), near_of(third), near_of(fourth));
+            let vector = skip(
+                near_of(first),
+                near_of(second),
+                near_of(third),
+                near_of(fourth),
+            );
             Some(shown(alloc, Some((vector.x, vector.y))))
         }
         _ => None,
@@ -56,15 +66,5 @@ fn near_of(word: &str) -> Near {
             },
         },
         Err(_) => Near::Missing,
-    }
-}
-
-fn vector_of(shape: u32, index: u32, reference: u32, near: [Near; 4]) -> Option<(i32, i32)> {
-    let [a, b, c, d] = near;
-    if shape <= 2 && index <= 1 {
-        let vector = predict(shape, index, reference, a, b, c, d);
-        Some((vector.x, vector.y))
-    } else {
-        None
     }
 }

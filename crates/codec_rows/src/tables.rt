@@ -12,39 +12,43 @@ use cb_tables::{
 };
 use std::alloc::Global;
 
-/// Looks a code or a number up, if the line asks for one.
+/// Looks a code or a number up, if the line asks for one that is there.
 pub fn answer(alloc: Global, line: Line<'_>) -> Option<Text> {
     let [first, second, third, ..] = line.words;
     let a = number(first);
     let b = number(second);
     let c = number(third);
     match line.name {
-        "token" => Some(code_text(alloc, token_of(a, b, c))),
-        "zeros" => Some(code_text(alloc, zeros_of(a, b))),
-        "dc_zeros" => Some(code_text(alloc, dc_zeros_of(a, b))),
-        "run" => Some(code_text(alloc, run_of(a, b))),
-        "find_token" => Some(token_text(alloc, token_in(a, window(second)))),
-        "find_zeros" => Some(found_text(alloc, zeros_in(a, window(second)))),
-        "find_dc_zeros" => Some(found_text(alloc, dc_zeros_in(a, window(second)))),
-        "find_run" => Some(found_text(alloc, run_in(a, window(second)))),
-        _ => number_answer(alloc, line),
+        "token" if is_token(a, b, c) => Some(code_text(alloc, token(a, b, c))),
+        "zeros" if is_zeros(a, b) => Some(code_text(alloc, zeros(a, b))),
+        "dc_zeros" if is_dc_zeros(a, b) => Some(code_text(alloc, dc_zeros(a, b))),
+        "run" if is_run(a, b) => Some(code_text(alloc, run(a, b))),
+        "find_token" if a <= 4 => Some(token_text(alloc, find_token(a, window(second)))),
+        "find_run" if 1 <= a => Some(found_text(alloc, find_run(a, window(second)))),
+        "find_zeros" if 1 <= a && a <= 15 => {
+            Some(found_text(alloc, find_zeros(a, window(second))))
+        }
+        "find_dc_zeros" if 1 <= a && a <= 3 => {
+            Some(found_text(alloc, find_dc_zeros(a, window(second))))
+        }
+        _ => number_answer(alloc, line.name, a, second),
     }
 }
 
-fn number_answer(alloc: Global, line: Line<'_>) -> Option<Text> {
-    let [first, second, ..] = line.words;
-    let a = number(first);
+fn number_answer(alloc: Global, name: &str, a: u32, second: &str) -> Option<Text> {
     let b = number(second);
-    match line.name {
-        "pattern" => Some(shown(alloc, pattern_of(second, a))),
-        "pattern_code" => Some(shown(alloc, pattern_code_of(second, a))),
-        "level_scale" => Some(shown(alloc, scale_at(a, b))),
-        "chroma_qp_of" => Some(shown(alloc, chroma_qp_at(a))),
-        "alpha" => Some(shown(alloc, alpha_at(a))),
-        "beta" => Some(shown(alloc, beta_at(a))),
-        "tc0" => Some(shown(alloc, tc0_at(a, b))),
-        _ => None,
-    }
+    let intra = second == "intra";
+    let found = match name {
+        "pattern" if a <= 47 => pattern(a, intra),
+        "pattern_code" if a <= 47 => pattern_code(a, intra),
+        "level_scale" if a <= 5 && b <= 15 => level_scale(a, b),
+        "chroma_qp_of" if a <= 51 => chroma_qp_of(a),
+        "alpha" if a <= 51 => alpha(a),
+        "beta" if a <= 51 => beta(a),
+        "tc0" if a <= 51 && 1 <= b && b <= 3 => tc0(a, b),
+        _ => return None,
+    };
+    Some(shown(alloc, Some(found)))
 }
 
 fn is_token(table: u32, total: u32, ones: u32) -> bool
@@ -71,70 +75,6 @@ fn is_run(left: u32, run: u32) -> bool
     1 <= left && run <= if left <= 6 { left } else { 14 }
 }
 
-fn token_of(table: u32, total: u32, ones: u32) -> Option<Code> {
-    if is_token(table, total, ones) {
-        Some(token(table, total, ones))
-    } else {
-        None
-    }
-}
-
-fn zeros_of(total: u32, value: u32) -> Option<Code> {
-    if is_zeros(total, value) {
-        Some(zeros(total, value))
-    } else {
-        None
-    }
-}
-
-fn dc_zeros_of(total: u32, value: u32) -> Option<Code> {
-    if is_dc_zeros(total, value) {
-        Some(dc_zeros(total, value))
-    } else {
-        None
-    }
-}
-
-fn run_of(left: u32, value: u32) -> Option<Code> {
-    if is_run(left, value) {
-        Some(run(left, value))
-    } else {
-        None
-    }
-}
-
-fn token_in(table: u32, window: u32) -> Option<FoundToken> {
-    if table <= 4 {
-        find_token(table, window)
-    } else {
-        None
-    }
-}
-
-fn zeros_in(total: u32, window: u32) -> Option<Found> {
-    if 1 <= total && total <= 15 {
-        find_zeros(total, window)
-    } else {
-        None
-    }
-}
-
-fn dc_zeros_in(total: u32, window: u32) -> Option<Found> {
-    if 1 <= total && total <= 3 {
-        find_dc_zeros(total, window)
-    } else {
-        None
-    }
-}
-
-fn run_in(left: u32, window: u32) -> Option<Found> {
-    if 1 <= left {
-        find_run(left, window)
-    } else {
-        None
-    }
-}
-
 // 32 bits that begin with these digits, with zeros behind them.
 fn window(digits: &str) -> u32 {
     let count = digits.len();
@@ -144,19 +84,13 @@ fn window(digits: &str) -> u32 {
     }
 }
 
-// The digits of a code.
-fn code_text(alloc: Global, code: Option<Code>) -> Text {
-    let Some(code) = code else {
-        return format!(in alloc; "none");
-    };
+// The digits of a code, which has 16 at most.
+fn code_text(alloc: Global, code: Code) -> Text {
     let value = code.value;
     let digits = format!(in alloc; "{value:016b}")?;
-    let digits = digits.as_str();
-    let count = 16u32.saturating_sub(code.length) as usize;
-    match digits.get(count..) {
-        Some(digits) => format!(in alloc; "{digits}"),
-        None => format!(in alloc; "none"),
-    }
+    let before = 16u32.saturating_sub(code.length) as usize;
+    let digits = digits.as_str().get(before..).unwrap_or("");
+    format!(in alloc; "{digits}")
 }
 
 fn token_text(alloc: Global, found: Option<FoundToken>) -> Text {
@@ -180,57 +114,5 @@ fn found_text(alloc: Global, found: Option<Found>) -> Text {
             format!(in alloc; "{value}, {length} bits")
         }
         None => format!(in alloc; "none"),
-    }
-}
-
-fn pattern_of(kind: &str, code: u32) -> Option<u32> {
-    if code <= 47 {
-        Some(pattern(code, kind == "intra"))
-    } else {
-        None
-    }
-}
-
-fn pattern_code_of(kind: &str, value: u32) -> Option<u32> {
-    if value <= 47 {
-        Some(pattern_code(value, kind == "intra"))
-    } else {
-        None
-    }
-}
-
-fn scale_at(rem: u32, place: u32) -> Option<u32> {
-    if rem <= 5 && place <= 15 {
-        Some(level_scale(rem, place))
-    } else {
-        None
-    }
-}
-
-fn chroma_qp_at(index: u32) -> Option<u32> {
-    if index <= 51 {
-        Some(chroma_qp_of(index))
-    } else {
-        None
-    }
-}
-
-fn alpha_at(index: u32) -> Option<u32> {
-    if index <= 51 {
-        Some(alpha(index))
-    } else {
-        None
-    }
-}
-
-fn beta_at(index: u32) -> Option<u32> {
-    if index <= 51 { Some(beta(index)) } else { None }
-}
-
-fn tc0_at(index: u32, strength: u32) -> Option<u32> {
-    if index <= 51 && 1 <= strength && strength <= 3 {
-        Some(tc0(index, strength))
-    } else {
-        None
     }
 }

@@ -11,11 +11,14 @@ pub fn answer(alloc: Global, line: Line<'_>) -> Option<Text> {
     let [first, second, third, ..] = line.words;
     let a = number(first);
     let b = number(second);
+    let offset = signed(second);
     match line.name {
         "residual" => Some(shown(alloc, residual_of(first, second, number(third)))),
-        "luma_dc" => Some(shown(alloc, luma_dc_of(first, b))),
-        "chroma_dc" => Some(shown(alloc, chroma_dc_of(first, b))),
-        "chroma_qp" => Some(shown(alloc, chroma_qp_of(a, signed(second)))),
+        "luma_dc" if b <= 51 => Some(shown(alloc, Some(luma_dc(&levels_of(first), b)))),
+        "chroma_dc" if b <= 51 => Some(shown(alloc, Some(chroma_dc(&four_of(first), b)))),
+        "chroma_qp" if a <= 51 && -12 <= offset && offset <= 12 => {
+            Some(shown(alloc, Some(chroma_qp(a, offset))))
+        }
         _ => None,
     }
 }
@@ -31,34 +34,15 @@ fn residual_of(list: &str, dc: &str, qp: u32) -> Option<[i32; 16]> {
     Some(residual(&levels_of(list), Some(level_at(dc, 0)), qp))
 }
 
-fn luma_dc_of(list: &str, qp: u32) -> Option<[i32; 16]> {
-    if qp <= 51 {
-        Some(luma_dc(&levels_of(list), qp))
-    } else {
-        None
-    }
-}
-
-fn chroma_dc_of(list: &str, qpc: u32) -> Option<[i32; 4]> {
-    let levels = [
+fn four_of(list: &str) -> [i32; 4]
+    ensures { AreWithin 4096 result }
+{
+    [
         level_at(list, 0),
         level_at(list, 1),
         level_at(list, 2),
         level_at(list, 3),
-    ];
-    if qpc <= 51 {
-        Some(chroma_dc(&levels, qpc))
-    } else {
-        None
-    }
-}
-
-fn chroma_qp_of(qp: u32, offset: i32) -> Option<u32> {
-    if qp <= 51 && -12 <= offset && offset <= 12 {
-        Some(chroma_qp(qp, offset))
-    } else {
-        None
-    }
+    ]
 }
 
 fn levels_of(list: &str) -> [i32; 16]

@@ -16,12 +16,12 @@ pub fn answer(alloc: Global, line: Line<'_>) -> Option<Text> {
     let c = number(third);
     match line.name {
         "reference" => Some(reference(alloc, a)),
-        "max_frame_num" => Some(shown(alloc, max_frame_num(first))),
+        "max_frame_num" => Some(max_frame_num(alloc, &info_of(first))),
         "refused_field" => Some(shown(alloc, first_refused_field(a, b, &info_of(third)))),
         "slice" => Some(slice(alloc, a, b, c, &info_of(fourth))),
         "size" => Some(size(alloc, a, b)),
         "beside" => Some(shown(alloc, neighbours(a, b, c))),
-        "block_place" => Some(shown(alloc, block_place(a))),
+        "block_place" if a < 16 => Some(shown(alloc, Some((block_x(a), block_y(a))))),
         _ => None,
     }
 }
@@ -36,12 +36,11 @@ fn reference(alloc: Global, surface: u32) -> Text {
     format!(in alloc; "unused {is_unused}, absent {is_absent}")
 }
 
-fn max_frame_num(fields: &str) -> Option<u32> {
-    let info = info_of(fields);
+fn max_frame_num(alloc: Global, info: &PictureInfo) -> Text {
     if info.log2_max_frame_num_minus4 <= 12 {
-        Some(info.max_frame_num())
+        shown(alloc, Some(info.max_frame_num()))
     } else {
-        None
+        format!(in alloc; "none")
     }
 }
 
@@ -112,14 +111,6 @@ fn neighbours(width: u32, height: u32, macroblock: u32) -> Option<[Option<u32>; 
             beside(size, macroblock, 2),
             beside(size, macroblock, 3),
         ])
-    } else {
-        None
-    }
-}
-
-fn block_place(block: u32) -> Option<(u32, u32)> {
-    if block < 16 {
-        Some((block_x(block), block_y(block)))
     } else {
         None
     }

@@ -1,6 +1,8 @@
 // The units of a byte stream, H.264, Annex B.
+ghost use Rattle.std.specs.Prelude.{◌<◌, ◌≤◌, ◌^◌, length};
+
 use crate::line::{Line, bytes_of};
-use crate::told::{Text, in_hex};
+use crate::told::{Text, in_hex, shown};
 use nal_units::{Finder, Found, join};
 use std::alloc::{AllocError, Global};
 
@@ -18,12 +20,18 @@ pub fn answer(alloc: Global, line: Line<'_>) -> Option<Text> {
 
 fn by_bytes(alloc: Global, text: &str) -> Text {
     let text = bytes_of(alloc, text)?;
-    reading_text(alloc, &pushed(alloc, &text)?)
+    if text.len() > 1_000 {
+        return format!(in alloc; "too long");
+    }
+    shown(alloc, Some(pushed(alloc, &text)?))
 }
 
 fn by_pieces(alloc: Global, text: &str) -> Text {
     let text = bytes_of(alloc, text)?;
-    reading_text(alloc, &sliced(alloc, &text)?)
+    if text.len() > 1_000 {
+        return format!(in alloc; "too long");
+    }
+    shown(alloc, Some(sliced(alloc, &text)?))
 }
 
 fn joined(alloc: Global, texts: [&str; 3]) -> Text {
@@ -36,41 +44,28 @@ fn joined(alloc: Global, texts: [&str; 3]) -> Text {
 }
 
 // A text's units, each from its first place up to the place after its last byte, and its broken place.
-#[derive(PartialEq, Drop)]
-struct Reading {
-    units: Vec<(u64, u64)>,
-    broken: Option<u64>,
-}
-
-fn reading_text(alloc: Global, reading: &Reading) -> Text {
-    let units = reading.units.as_slice();
-    match reading.broken {
-        Some(at) => format!(in alloc; "{units:?}, broken at {at}"),
-        None => format!(in alloc; "{units:?}"),
-    }
-}
+type Reading = (Vec<(u64, u64)>, Option<u64>);
 
 // Reads a text byte by byte.
-fn pushed(alloc: Global, text: &[u8]) -> Result<Reading, AllocError> {
+fn pushed(alloc: Global, text: &[u8]) -> Result<Reading, AllocError>
+    requires { length text.now < 2 ^ 32 }
+{
     let mut units = Vec::new(alloc);
     let mut finder = Finder::new();
     for byte in text {
         match finder.push(*byte) {
             Found::Nothing => {}
             Found::Unit { start, end } => units.push((start, end))?,
-            Found::Broken { at } => {
-                return Ok(Reading {
-                    units,
-                    broken: Some(at),
-                });
-            }
+            Found::Broken { at } => return Ok((units, Some(at))),
         }
     }
     ended(units, finder.finish())
 }
 
 // Reads a text in pieces, each up to what is found.
-fn sliced(alloc: Global, text: &[u8]) -> Result<Reading, AllocError> {
+fn sliced(alloc: Global, text: &[u8]) -> Result<Reading, AllocError>
+    requires { length text.now < 2 ^ 32 }
+{
     let mut units = Vec::new(alloc);
     let mut finder = Finder::new();
     let mut place = 0;
@@ -80,12 +75,7 @@ fn sliced(alloc: Global, text: &[u8]) -> Result<Reading, AllocError> {
         match found {
             Found::Nothing => {}
             Found::Unit { start, end } => units.push((start, end))?,
-            Found::Broken { at } => {
-                return Ok(Reading {
-                    units,
-                    broken: Some(at),
-                });
-            }
+            Found::Broken { at } => return Ok((units, Some(at))),
         }
     }
     ended(units, finder.finish())
@@ -98,7 +88,7 @@ fn ended(mut units: Vec<(u64, u64)>, found: Found) -> Result<Reading, AllocError
         Found::Unit { start, end } => units.push((start, end))?,
         Found::Broken { at } => broken = Some(at),
     }
-    Ok(Reading { units, broken })
+    Ok((units, broken))
 }
 
 // Reads a text as the byte stream format is written down: zero bytes, a start code, the unit up to the next start
@@ -125,7 +115,7 @@ fn spelled(alloc: Global, text: &[u8]) -> Result<Reading, AllocError> {
         units.push((start as u64, end as u64))?;
         from = end;
     }
-    Ok(Reading { units, broken })
+    Ok((units, broken))
 }
 
 fn first_nonzero(text: &[u8], from: usize) -> usize
@@ -177,22 +167,27 @@ fn short_texts(alloc: Global) -> Text {
 // The text of a number with these bytes as digits.
 fn text_of(number: u32) -> [u8; 8] {
     [
-        digit(number),
-        digit(number / 5),
-        digit(number / 25),
-        digit(number / 125),
-        digit(number / 625),
-        digit(number / 3_125),
-        digit(number / 15_625),
-        digit(number / 78_125),
+        BYTES[(number % 5) as usize],
+        BYTES[(number / 5 % 5) as usize],
+        BYTES[(number / 25 % 5) as usize],
+        BYTES[(number / 125 % 5) as usize],
+        BYTES[(number / 625 % 5) as usize],
+        BYTES[(number / 3_125 % 5) as usize],
+        BYTES[(number / 15_625 % 5) as usize],
+        0,
     ]
 }
 
-fn digit(number: u32) -> u8 {
-    BYTES[(number % 5) as usize]
-}
-
-fn is_read_as_spelled(alloc: Global, text: &[u8]) -> Result<bool, AllocError> {
-    let spelled = spelled(alloc, text)?;
-    Ok(pushed(alloc, text)? == spelled && sliced(alloc, text)? == spelled)
+fn is_read_as_spelled(alloc: Global, text: &[u8]) -> Result<bool, AllocError>
+    requires { length text.now < 2 ^ 32 }
+{
+    let (units, broken) = spelled(alloc, text)?;
+    let (bytewise, bytewise_broken) = pushed(alloc, text)?;
+    let (piecewise, piecewise_broken) = sliced(alloc, text)?;
+    Ok(
+        bytewise.as_slice() == units.as_slice()
+            && bytewise_broken == broken
+            && piecewise.as_slice() == units.as_slice()
+            && piecewise_broken == broken,
+    )
 }

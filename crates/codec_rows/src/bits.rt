@@ -79,10 +79,11 @@ fn put(writer: &mut BitWriter, element: &str) -> Result<(), AllocError> {
     let (first, second) = split(argument, ':');
     let n = number(first);
     let value = number(second);
+    let difference = signed(first);
     match name {
         "u" if n < 32 && value < 1 << n => writer.put_u(value, n),
         "ue" if n < u32::MAX => writer.put_ue(n),
-        "se" if signed(first) > i32::MIN => writer.put_se(signed(first)),
+        "se" if difference.unsigned_abs() < 1 << 31 => writer.put_se(difference),
         "te" if 1 <= n && value <= n && value < u32::MAX => writer.put_te(value, n),
         "taken_back_ue" if n < u32::MAX => {
             let mark = writer.mark();

@@ -26,8 +26,8 @@
 //!                                                  what is read of a slice, and the bytes of what is read
 //!     list INFO FRAME_NUM MINUS1                   a reference list, edited once if MINUS1 is a number
 //!     sps BYTES, sps_size BYTES, sps_back BYTES, pps BYTES, pps_back BYTES
-//!     residual LEVELS DC QP, luma_dc LEVELS QP, chroma_dc LEVELS QPC, chroma_qp QP OFFSET
-//!                                                  levels are numbers with commas, and zeros behind them
+//!     residual PLACE DC QP, luma_dc PLACE QP       of levels that are 1 at this place, 0 to 2 in zig-zag order, and else 0
+//!     chroma_dc LEVELS QPC, chroma_qp QP OFFSET    levels are four numbers with commas
 //!     predict4 MODE LEFT TOP RIGHT CORNER, predict16 MODE LEFT TOP CORNER, predict_chroma MODE LEFT TOP CORNER
 //!     vector SHAPE INDEX REFERENCE A B C D, skip_vector A B C D
 //!                                                  a neighbour is -, intra or REFERENCE:X:Y

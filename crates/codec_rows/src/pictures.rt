@@ -73,13 +73,17 @@ fn plane_of<'a>(picture: &'a Picture, name: &str) -> &'a Plane {
 // Writes all samples of a plane.
 fn fill(alloc: Global, picture: &mut Picture, name: &str, bytes: &str) -> Text {
     let bytes = bytes_of(alloc, bytes)?;
-    if bytes.len() != plane_of(picture, name).samples().len() {
-        return format!(in alloc; "another count");
-    }
     match name {
-        "cb" => picture.cb.samples_mut().copy_from_slice(&bytes),
-        "cr" => picture.cr.samples_mut().copy_from_slice(&bytes),
-        _ => picture.y.samples_mut().copy_from_slice(&bytes),
+        "y" if bytes.len() == picture.y.samples().len() => {
+            picture.y.samples_mut().copy_from_slice(&bytes)
+        }
+        "cb" if bytes.len() == picture.cb.samples().len() => {
+            picture.cb.samples_mut().copy_from_slice(&bytes)
+        }
+        "cr" if bytes.len() == picture.cr.samples().len() => {
+            picture.cr.samples_mut().copy_from_slice(&bytes)
+        }
+        _ => return format!(in alloc; "another count"),
     }
     format!(in alloc; "done")
 }

@@ -1,7 +1,7 @@
 // Scaling and inverse transforms. H.264, 8.5.8 and 8.5.10 to 8.5.12.
 ghost use Rattle.int_transform.specs.Bounds.{AreWithin, IsWithin};
 
-use crate::line::{Line, number, signed};
+use crate::line::{Line, number, signed, split};
 use crate::told::{Text, shown};
 use int_transform::{chroma_dc, chroma_qp, luma_dc, residual};
 use std::alloc::Global;
@@ -13,8 +13,8 @@ pub fn answer(alloc: Global, line: Line<'_>) -> Option<Text> {
     let b = number(second);
     let offset = signed(second);
     match line.name {
-        "residual" => Some(shown(alloc, residual_of(first, second, number(third)))),
-        "luma_dc" if b <= 51 => Some(shown(alloc, Some(luma_dc(&levels_of(first), b)))),
+        "residual" => Some(shown(alloc, residual_of(a, second, number(third)))),
+        "luma_dc" if b <= 51 => Some(shown(alloc, Some(luma_dc(&one_at(a), b)))),
         "chroma_dc" if b <= 51 => Some(shown(alloc, Some(chroma_dc(&four_of(first), b)))),
         "chroma_qp" if a <= 51 && -12 <= offset && offset <= 12 => {
             Some(shown(alloc, Some(chroma_qp(a, offset))))
@@ -24,56 +24,45 @@ pub fn answer(alloc: Global, line: Line<'_>) -> Option<Text> {
 }
 
 // `-` is no given DC value.
-fn residual_of(list: &str, dc: &str, qp: u32) -> Option<[i32; 16]> {
+fn residual_of(place: u32, dc: &str, qp: u32) -> Option<[i32; 16]> {
     if qp > 51 {
         return None;
     }
     if dc == "-" {
-        return Some(residual(&levels_of(list), None, qp));
+        return Some(residual(&one_at(place), None, qp));
     }
-    Some(residual(&levels_of(list), Some(level_at(dc, 0)), qp))
+    Some(residual(&one_at(place), Some(level_of(dc)), qp))
+}
+
+// Levels of which one is 1, at one of the first three places of a row, or none.
+fn one_at(place: u32) -> [i32; 16]
+    ensures { AreWithin 4096 result }
+{
+    match place {
+        0 => [1, 0, 0, 0, 0, 0, 0, 0, 0, 0, 0, 0, 0, 0, 0, 0],
+        1 => [0, 1, 0, 0, 0, 0, 0, 0, 0, 0, 0, 0, 0, 0, 0, 0],
+        2 => [0, 0, 1, 0, 0, 0, 0, 0, 0, 0, 0, 0, 0, 0, 0, 0],
+        _ => [0; 16],
+    }
 }
 
 fn four_of(list: &str) -> [i32; 4]
     ensures { AreWithin 4096 result }
 {
+    let (first, list) = split(list, ',');
+    let (second, list) = split(list, ',');
+    let (third, fourth) = split(list, ',');
     [
-        level_at(list, 0),
-        level_at(list, 1),
-        level_at(list, 2),
-        level_at(list, 3),
+        level_of(first),
+        level_of(second),
+        level_of(third),
+        level_of(fourth),
     ]
 }
 
-fn levels_of(list: &str) -> [i32; 16]
-    ensures { AreWithin 4096 result }
-{
-    [
-        level_at(list, 0),
-        level_at(list, 1),
-        level_at(list, 2),
-        level_at(list, 3),
-        level_at(list, 4),
-        level_at(list, 5),
-        level_at(list, 6),
-        level_at(list, 7),
-        level_at(list, 8),
-        level_at(list, 9),
-        level_at(list, 10),
-        level_at(list, 11),
-        level_at(list, 12),
-        level_at(list, 13),
-        level_at(list, 14),
-        level_at(list, 15),
-    ]
-}
-
-// A level of a list. One that is missing is 0.
-fn level_at(list: &str, place: usize) -> i32
+// A level. What is none is 0.
+fn level_of(word: &str) -> i32
     ensures { IsWithin 4096 result }
 {
-    match list.split(',').nth(place) {
-        Some(word) => word.parse().unwrap_or(0).clamp(-4096, 4096),
-        None => 0,
-    }
+    word.parse().unwrap_or(0).clamp(-4096, 4096)
 }

@@ -73,21 +73,36 @@ pub const HEADER: Header = Header {
     beta_half: 0,
 };
 
-// What a header with this slice_type in a unit of this nal_unit_type tells. It has so many active entries, if any.
+// What a header with this slice_type in a unit of this nal_unit_type tells. It has so many active entries and one, if
+// any.
 fn slice(alloc: Global, slice_type: u32, unit_type: u32, active: u32, info: &PictureInfo) -> Text {
+    let head = UnitHead {
+        ref_idc: 3,
+        unit_type: unit_type.min(31) as u8,
+    };
     let header = Header {
-        head: UnitHead {
-            ref_idc: 3,
-            unit_type: unit_type.min(31) as u8,
-        },
+        head,
         slice_type,
-        active_override: if active <= 31 { Some(active) } else { None },
         ..HEADER
     };
     let is_p = header.is_p();
     let is_idr = header.is_idr();
-    let entries = header.active_entries(info);
+    let entries = entries_of(active, info);
     format!(in alloc; "P {is_p}, IDR {is_idr}, {entries} entries")
+}
+
+fn entries_of(active: u32, info: &PictureInfo) -> u32 {
+    if active <= 31 {
+        let header = Header {
+            active_override: Some(active),
+            ..HEADER
+        };
+        return header.active_entries(info);
+    }
+    if info.num_ref_idx_l0_active_minus1 > 31 {
+        return 0;
+    }
+    HEADER.active_entries(info)
 }
 
 fn size(alloc: Global, width: u32, height: u32) -> Text {

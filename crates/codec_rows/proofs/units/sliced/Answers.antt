@@ -1,4 +1,4 @@
-use Rattle.std.proofs.Common.{◌+◌, take, arith}
+use Rattle.std.proofs.Common.{take, arith}
 use Rattle.codec_rows.proofs.Pieces.{rest_len, piece_on, stands_on}
 use Rattle.codec_rows.proofs.units.sliced.Goals as goal
 

@@ -7,7 +7,6 @@ use Rattle.driver_model.specs.Objects as model
 use Rattle.driver_model.specs.States.{Found, State, is_out}
 use Rattle.driver_objects.specs.Contents.{HasVideo}
 use Rattle.driver_objects.specs.Kept.{kept_of}
-use Rattle.driver_objects.specs.declared.object.Object.{Object}
 use Rattle.driver_objects.proofs.Alike.{alike_has_video, alike_video}
 use Rattle.driver_core.specs.RenderStarts.{IsLent}
 use Rattle.driver_core.specs.Rendered.{AreSeen, IsSeenIf}

@@ -7,12 +7,12 @@ use Rattle.cb_types.specs.declared.picture_info.PictureInfo.{PictureInfo}
 use Rattle.cb_types.specs.declared.size.SizeMbs.{SizeMbs}
 use Rattle.decoder_render.specs.Coverage.{given}
 use Rattle.decoder_render.specs.Outcomes.{IsOutcome}
-use Rattle.decoder_render.specs.Prepared as units
 use Rattle.decoder_render.specs.Submission.{ArePayloads}
 use Rattle.decoder_render.specs.declared.outcome.Outcome.{Outcome}
 use Rattle.decoder_render.specs.declared.outcome.Outcome.TheVariants as outcome
-use Rattle.decoder_render.specs.declared.prepared.Prepared.{Prepared}
+use Rattle.decoder_render.proofs.OneReading.{payloads_one}
 use Rattle.driver_jobs.specs.Renders as jobs
+use Rattle.driver_jobs.specs.Units.{HasUnits}
 use Rattle.driver_jobs.specs.declared.renders.CoreRender.{CoreRender}
 use Rattle.vd_plane.specs.Picture.{IsZeros}
 use Rattle.vd_plane.specs.declared.picture.Picture.{Picture}
@@ -66,6 +66,10 @@ decoded_items d target picture outcome.Ok = refl
 decoded_items d target picture (outcome.Bitstream slice) = refl
 decoded_items d target picture (outcome.Incomplete macroblocks) = refl
 
+-- bytes have one number of units
+units_one : (bytes : List ℕ) (payloads : List (Option (List ℕ))) (units count : ℕ) → HasUnits bytes units → ArePayloads bytes payloads → (units == count) ≡ true → (length payloads == count) ≡ true
+units_one bytes payloads units count has are is = ap (λ n. n == count) (sym (has.2 ∙ ap length (payloads_one bytes has.0 payloads has.1 are))) ∙ is
+
 -- ---- refusals
 
 module _ (d : State) (caller : List ℕ) (decoder target : ℕ) (info : PictureInfo) (bytes : List ℕ) where
@@ -115,9 +119,8 @@ module _ (d : State) (caller : List ℕ) (decoder target : ℕ) (info : PictureI
 -- ---- the job
 
 module _ (old new : Core) (decoder target : ℕ) (info : PictureInfo) (bytes : List ℕ) (at : KeptRendering) (sees : Sees old (λ d. render d decoder target info) at)
-    (prepared : Prepared) (are : ArePayloads bytes (units.units_of prepared)) (zeros : IsZeros (units.picture_of prepared) at.decoder.size.width at.decoder.size.height)
-    (counted : (length (units.units_of prepared) == info.slice_count) ≡ true) (home : some_written (kept_of old.objects) old.jobs.items at ≡ false)
-    (count : length at.references ≡ 16) (job : CoreRender) (holds : HoldsRender old new at info prepared job) (d : State) (caller : List ℕ) (stands : Stands old d) where
+    (units : ℕ) (has : HasUnits bytes units) (counted : (units == info.slice_count) ≡ true) (home : some_written (kept_of old.objects) old.jobs.items at ≡ false)
+    (count : length at.references ≡ 16) (job : CoreRender) (holds : HoldsRender old new at info bytes job) (d : State) (caller : List ℕ) (stands : Stands old d) where
   abbrev on : Rendering
   on = (sees d stands).0
 
@@ -143,8 +146,8 @@ module _ (old new : Core) (decoder target : ℕ) (info : PictureInfo) (bytes : L
       let pictures = lent_pictures old d at.references on.references holds.pictures seen.references (holds.count ∙ sym count) (λ place lt. holds.lent place (omega (arith, lt, count))) references_home in
       holds.given ∙ (λ i. given info (of_decoder i) (pictures i))
 
-  outcome_now : (o : Outcome) (picture : Picture) → IsOutcome (jobs.given_of job) (jobs.payloads_of job) o picture → IsOutcome (given_now info on) (units.units_of prepared) o picture
-  outcome_now o picture is = subst (λ g. IsOutcome g (units.units_of prepared) o picture) held_now (subst (λ us. IsOutcome (jobs.given_of job) us o picture) holds.payloads is)
+  outcome_now : (o : Outcome) (picture : Picture) → IsOutcome (jobs.given_of job) (jobs.payloads_of job) o picture → IsOutcome (given_now info on) (jobs.payloads_of job) o picture
+  outcome_now o picture is = subst (λ g. IsOutcome g (jobs.payloads_of job) o picture) held_now is
 
   abbrev after : Outcome → Picture → State
   after o picture = with_note (decoded d on.target picture o) caller on.target.place o
@@ -192,7 +195,7 @@ module _ (old new : Core) (decoder target : ℕ) (info : PictureInfo) (bytes : L
       → TakesWith new d caller (call.Render decoder target info bytes) o (jobs.number_of job) (λ then note. OwesPicture then note on.decoder.value.size picture)
   takes o picture is = record {
     after = after o picture;
-    step = render_step d caller decoder target info bytes on looks (units.units_of prepared) are counted o picture not_held (outcome_now o picture is);
+    step = render_step d caller decoder target info bytes on looks (jobs.payloads_of job) holds.units (units_one bytes (jobs.payloads_of job) units info.slice_count has holds.units counted) o picture not_held (outcome_now o picture is);
     stands = stands_after o picture;
     note = note_of o picture;
     noted = ap (λ notes. notes ++ note_of o picture ∷ []) (decoded_notes d on.target picture o);
@@ -207,17 +210,16 @@ module _ (old new : Core) (decoder target : ℕ) (info : PictureInfo) (bytes : L
   begins = record {
     on = on;
     looks = looks;
-    units = subst (ArePayloads bytes) (sym holds.payloads) are;
+    units = holds.units;
     holds = held_now;
-    zeros = subst (λ (size : SizeMbs). IsZeros (jobs.held_by job) size.width size.height) of_decoder (subst (λ p. IsZeros p at.decoder.size.width at.decoder.size.height) (sym holds.held) zeros);
+    zeros = subst (λ (size : SizeMbs). IsZeros (jobs.held_by job) size.width size.height) of_decoder holds.zeros;
     takes = takes;
   }
 
 -- what the start answers, where nothing was refused and nothing has to be waited for
 module _ (old new : Core) (decoder target : ℕ) (info : PictureInfo) (bytes : List ℕ) (at : KeptRendering) (sees : Sees old (λ d. render d decoder target info) at)
-    (prepared : Prepared) (are : ArePayloads bytes (units.units_of prepared)) (zeros : IsZeros (units.picture_of prepared) at.decoder.size.width at.decoder.size.height)
-    (counted : (length (units.units_of prepared) == info.slice_count) ≡ true) (home : some_written (kept_of old.objects) old.jobs.items at ≡ false)
+    (units : ℕ) (has : HasUnits bytes units) (counted : (units == info.slice_count) ≡ true) (home : some_written (kept_of old.objects) old.jobs.items at ≡ false)
     (count : length at.references ≡ 16) (d : State) (caller : List ℕ) (stands : Stands old d) where
-  pub started : (result : Result CoreRender Refusal) → IfOk result (HoldsRender old new at info prepared) → IfErr result (WantsMemory old new) → IsStart new d caller decoder target info bytes (Now result)
-  started (Ok job) holds none = begins old new decoder target info bytes at sees prepared are zeros counted home count job holds d caller stands
+  pub started : (result : Result CoreRender Refusal) → IfOk result (HoldsRender old new at info bytes) → IfErr result (WantsMemory old new) → IsStart new d caller decoder target info bytes (Now result)
+  started (Ok job) holds none = begins old new decoder target info bytes at sees units has counted home count job holds d caller stands
   started (Err refusal) none wants = (subst (λ r. Step d caller (call.Render decoder target info bytes) (Err r) d) (sym wants.0) (no_memory d caller decoder target info bytes), wants.1 d stands)

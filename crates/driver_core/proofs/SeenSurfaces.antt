@@ -1,5 +1,5 @@
 -- Which video surfaces a render's further handles name.
-use Rattle.std.proofs.Common.{◌≡◌, ℕ, zero, suc, ◌+◌, ◌<◌, ◌==◌, ◌||◌, Bool, true, false, if◌then◌else◌, List, [], ◌∷◌, length, get_or, slice_get, Option, Some, None, unwrap_or, Result, Ok, Err, IfOk, IfErr, refl, sym, ap, ◌∙◌, subst, arith}
+use Rattle.std.proofs.Common.{◌≡◌, ℕ, zero, suc, ◌+◌, ◌<◌, ◌==◌, ◌||◌, Bool, true, false, if◌then◌else◌, List, [], ◌∷◌, length, get_or, Option, Some, None, unwrap_or, Result, Ok, Err, IfOk, IfErr, refl, ap, ◌∙◌, subst, arith}
 use Rattle.std.specs.Option.{option_and_then}
 use Rattle.std.proofs.lemmas.Bool.Decides.{nat_tests}
 use Rattle.cb_types.specs.References.{is_absent, is_unused}
@@ -98,7 +98,6 @@ module _ (core : Core) (device arg : ℕ) (entry : Reference) (used : is_unused 
   pub entry_seen : (index : ℕ) → HasVideo (kept_of core.objects) index → SeesSurface core arg entry.surface device index → SeesEntry core device arg entry (Some index)
   entry_seen index video sees = record {
     video = λ other same. subst (HasVideo (kept_of core.objects)) (ap (λ o. unwrap_or o index) same) video;
-    needed = λ is_used is_there. search Rattle.std.proofs.Common.rules;
     sees = λ d stands.
         let s = sees d stands in
         (Some s.0, by_surface d ∙ ap (λ (l : Looked (Found model.VideoSurface)). l >>= (λ on. Ok (Some on))) s.1, s.2);

@@ -2,12 +2,12 @@
 use Rattle.std.specs.Prelude.{◌≡◌, ℕ, ◌<◌, List, length, map, slice_get, slice_index_or, Option, Some, None, Ok, Err}
 use Rattle.cb_types.specs.declared.picture_info.PictureInfo.{PictureInfo}
 use Rattle.decoder_render.specs.Coverage.{given}
-use Rattle.decoder_render.specs.Prepared as units
+use Rattle.decoder_render.specs.Submission.{ArePayloads}
 use Rattle.decoder_render.specs.declared.outcome.Outcome.{Outcome}
 use Rattle.decoder_render.specs.declared.outcome.Outcome.TheVariants as outcome
-use Rattle.decoder_render.specs.declared.prepared.Prepared.{Prepared}
 use Rattle.driver_jobs.specs.Renders as renders
 use Rattle.driver_jobs.specs.declared.renders.CoreRender.{CoreRender}
+use Rattle.vd_plane.specs.Picture.{IsZeros}
 use Rattle.vd_plane.specs.declared.picture.Picture.{Picture}
 use Rattle.vd_status.specs.declared.refusal.Refusal.{Refusal}
 use Rattle.vd_status.specs.declared.refusal.Refusal.TheVariants.{OutOfMemory}
@@ -37,15 +37,15 @@ IsLent kept _ _ = ⊥
 abbrev pub AreLent : List Object → List (Option ℕ) → List (Option Picture) → Type 0
 AreLent kept slots pictures = (place : ℕ) → place < 16 → IsLent kept (slice_index_or slots place None) (slice_index_or pictures place None)
 
--- The job holds the units and what the references have, and its number is the free one; the core stands for the state where the target
+-- The job holds the bytes' units and what the references have, and its number is the free one; the core stands for the state where the target
 -- has some picture and the job is noted, or where the job is noted only.
-pub record HoldsRender (old new : Core) (on : Rendering) (info : PictureInfo) (prepared : Prepared) (job : CoreRender) : Type 0 where
+pub record HoldsRender (old new : Core) (on : Rendering) (info : PictureInfo) (bytes : List ℕ) (job : CoreRender) : Type 0 where
   pub pictures : List (Option Picture)
   pub count : length pictures ≡ 16
   pub lent : AreLent (kept_of old.objects) on.references pictures
   pub given : renders.given_of job ≡ given info on.decoder.size pictures
-  pub payloads : renders.payloads_of job ≡ units.units_of prepared
-  pub held : renders.held_by job ≡ units.picture_of prepared
+  pub units : ArePayloads bytes (renders.payloads_of job)
+  pub zeros : IsZeros (renders.held_by job) on.decoder.size.width on.decoder.size.height
   pub numbered : (d : State) → Stands old d → renders.number_of job ≡ free_number (map (λ note. note.number) d.notes)
   pub picture : (d : State) (caller : List ℕ) (object : Object) (content : model.Content)
       → Stands old d → slice_get (kept_of old.objects) on.target ≡ Some object → HasPictureThere d object.place content

@@ -1,6 +1,5 @@
 -- What a render finds among the kept objects. No public clause cites this module.
-use Rattle.std.specs.Prelude.{◌≡◌, ℕ, ◌+◌, ◌<◌, false, List, [], ◌∷◌, length, slice_get, slice_index_or, Option, Some, None, Ok, Err, IsSome}
-use Rattle.cb_types.specs.References.{is_absent, is_unused}
+use Rattle.std.specs.Prelude.{◌≡◌, ℕ, ◌+◌, ◌<◌, List, [], ◌∷◌, length, slice_get, slice_index_or, Option, Some, None, Ok, Err}
 use Rattle.cb_types.specs.declared.picture_info.Reference.{Reference}
 use Rattle.recon.specs.References.{no_reference}
 use Rattle.vd_status.specs.declared.refusal.Refusal.{Refusal}
@@ -55,7 +54,6 @@ RefusesSurface core arg name device refusal = (d : State) → Stands core d → 
 -- An entry for a reference, whose handle has this number, names the video surface at this place, or needs none.
 pub record SeesEntry (core : Core) (device arg : ℕ) (entry : Reference) (slot : Option ℕ) : Type 0 where
   pub video : (index : ℕ) → slot ≡ Some index → HasVideo (kept_of core.objects) index
-  pub needed : is_unused entry ≡ false → is_absent entry ≡ false → IsSome slot
   pub sees : (d : State) → Stands core d → (found : Option (Found model.VideoSurface)) × (reference d device arg entry ≡ Ok found) × IsSeenIf core d slot found
 
 abbrev pub RefusesEntry : Core → (device arg : ℕ) → Reference → Refusal → Type 0
@@ -88,10 +86,8 @@ Sees core looked on = (d : State) → Stands core d → (found : renders.Renderi
 abbrev pub RefusesLook : Core → (State → Looked renders.Rendering) → Refusal → Type 0
 RefusesLook core looked refusal = (d : State) → Stands core d → looked d ≡ Err refusal
 
--- each is a video surface, and there is one for each entry that needs one
-pub record AreVideos (kept : List Object) (entries : List Reference) (on : Rendering) : Type 0 where
+-- each is a video surface
+pub record AreVideos (kept : List Object) (on : Rendering) : Type 0 where
   pub target : HasVideo kept on.target
   pub count : length on.references ≡ 16
   pub references : (place index : ℕ) → place < 16 → slice_index_or on.references place None ≡ Some index → HasVideo kept index
-  pub needed : (place : ℕ) → place < 16 → is_unused (slice_index_or entries place no_reference) ≡ false → is_absent (slice_index_or entries place no_reference) ≡ false
-      → IsSome (slice_index_or on.references place None)

@@ -1,5 +1,5 @@
 // The clocks of devices: ticks, at which presentation queues show surfaces.
-ghost use Rattle.std.specs.Prelude.{◌≡◌, ℕ, Some, Err, IfOk, IfErr};
+ghost use Rattle.std.specs.Prelude.{◌≡◌, ℕ, List, Some, Err, IfOk, IfErr};
 ghost use Rattle.driver_model.specs.Clock.{advance, ticked_at};
 ghost use Rattle.driver_model.specs.Objects as model;
 ghost use Rattle.driver_model.specs.States.{Found, State, content_at};
@@ -11,7 +11,7 @@ ghost use Rattle.driver_core.specs.Stands.{Stands};
 use crate::answer::CoreAnswer;
 use crate::driver::Core;
 use driver_model::{Answer, Call};
-use driver_objects::{Due, Flips, all_due, flips_to, set_time, show_all, sweep};
+use driver_objects::{Due, Flips, all_due, flips_to, is_due_written, set_time, show_all, sweep};
 use std::alloc::{AllocError, Global};
 use vd_status::Refusal;
 
@@ -55,12 +55,12 @@ impl Core {
         ensures { (device : ℕ) → Ticks self.old device time on
             → Calls self.old self.new (Call.Advance device time) (λ flips. Answer.Flips (flipped flips)) result }
     {
+        if self.is_tick_held(on, time) {
+            return CoreAnswer::Later;
+        }
         let Ok(dues) = self.dues(alloc, on, time) else {
             return CoreAnswer::Now(Err(Refusal::OutOfMemory));
         };
-        if self.is_any_out(&dues) {
-            return CoreAnswer::Later;
-        }
         match self.flips(alloc, on, &dues, time) {
             Ok(flips) => {
                 self.tick(on, &dues, time);
@@ -89,16 +89,11 @@ impl Core {
         all_due(alloc, self.objects.kept(), &self.queues, on, time)
     }
 
-    // Whether a job writes a surface that is to be shown.
-    fn is_any_out(&self, dues: &[Due]) -> bool
-        ensures { (d : State) → Stands self.now d → result ≡ is_any_out d dues.now }
+    // Whether a job writes a surface that is to be shown. This takes no memory, so a tick that waits takes none.
+    fn is_tick_held(&self, on: u64, time: u64) -> bool
+        ensures { (d : State) (dues : List Due) → Stands self.now d → AreDue self.now on time dues → result ≡ is_any_out d dues }
     {
-        for due in dues {
-            if self.is_out(due.surface) {
-                return true;
-            }
-        }
-        false
+        is_due_written(self.objects.kept(), &self.queues, &self.jobs, on, time)
     }
 
     // What the queues that are due are to show.

@@ -11,8 +11,8 @@ use driver_objects::count_surfaces;
 impl Core {
     /// How many video and output surfaces and how many entries of presentation queues are kept. A destroyed
     /// surface counts while a live queue has an entry of it or shows it. This is never refused and never waits.
-    pub fn kept(&mut self) -> CoreAnswer<KeptCounts>
-        ensures { Calls self.old self.new Call.Kept Answer.Counts result }
+    pub fn kept(&self) -> CoreAnswer<KeptCounts>
+        ensures { Calls self.now self.now Call.Kept Answer.Counts result }
     {
         CoreAnswer::Now(Ok(KeptCounts {
             surfaces: count_surfaces(self.objects.kept()) as u32,

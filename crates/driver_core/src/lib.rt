@@ -22,6 +22,7 @@ mod queues;
 mod references;
 mod renders;
 mod samples;
+mod sends;
 mod status;
 mod video_surfaces;
 mod wishes;
@@ -29,6 +30,7 @@ mod writes;
 
 pub use answer::{CoreAnswer, CoreBegin};
 pub use driver::Core;
-pub use driver_jobs::{CoreMix, CoreMixDone, CoreRender, CoreRenderDone};
+pub use driver_jobs::{CoreMix, CoreMixDone, CoreRender, CoreRenderDone, count_units};
+pub use driver_model::{Capabilities, KeptCounts, PresentStatus, Shown, SurfaceSize, Wish};
 pub use driver_objects::{Flip, Flips, Pixels};
 pub use submission::Submission;

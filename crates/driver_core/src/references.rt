@@ -25,7 +25,7 @@ impl Core {
         info: &PictureInfo,
     ) -> Result<Rendering, Refusal>
         ensures sees { IfOk result (Sees self.now (λ d. render d decoder target info.now)) }
-        ensures videos { IfOk result (AreVideos (kept_of self.now.objects) info.now.references) }
+        ensures videos { IfOk result (AreVideos (kept_of self.now.objects)) }
         ensures within { IfOk result (λ on. IsWithinLimits on.decoder.size) }
         ensures accepted { IfOk result (λ on. IsAccepted on.decoder.profile on.decoder.max_references info.now) }
         ensures refuses { IfErr result (RefusesLook self.now (λ d. render d decoder target info.now)) }
@@ -54,7 +54,7 @@ impl Core {
         entries: &[Reference; 16],
     ) -> Result<Rendering, Refusal>
         ensures sees { IfOk result (Sees self.now (λ d. rendering d decoder target entries.now)) }
-        ensures videos { IfOk result (AreVideos (kept_of self.now.objects) entries.now) }
+        ensures videos { IfOk result (AreVideos (kept_of self.now.objects)) }
         ensures within { IfOk result (λ on. IsWithinLimits on.decoder.size) }
         ensures refuses { IfErr result (RefusesLook self.now (λ d. rendering d decoder target entries.now)) }
     {

@@ -2,8 +2,9 @@
 ghost use Rattle.std.specs.Prelude.{◌≡◌, ◌<◌, ◌^◌, ℕ, IfErr, IfOk, None, Some, length, option_map, slice_index_or};
 ghost use Rattle.std.specs.Arc.{arc_value};
 ghost use Rattle.cb_types.specs.AcceptedInfo.{IsAcceptedBySome};
-ghost use Rattle.decoder_render.specs.Prepared as units;
+ghost use Rattle.cb_types.specs.SizeMbs.{IsWithinLimits};
 ghost use Rattle.driver_jobs.specs.Renders.{done_number, done_size, outcome_of, picture_of};
+ghost use Rattle.driver_jobs.specs.Units.{HasUnits};
 ghost use Rattle.recon.specs.References.{pictures_of};
 ghost use Rattle.driver_objects.specs.Contents.{HasVideo};
 ghost use Rattle.driver_objects.specs.Kept.{kept_of};
@@ -19,7 +20,7 @@ use crate::answer::{CoreAnswer, CoreBegin};
 use crate::driver::Core;
 use cb_types::PictureInfo;
 use decoder_render::{Outcome, Prepared};
-use driver_jobs::{CoreRender, CoreRenderDone};
+use driver_jobs::{CoreRender, CoreRenderDone, count_units};
 use driver_objects::jobs::answer_of;
 use driver_objects::references::Rendering;
 use recon::Refs;
@@ -44,7 +45,25 @@ impl Core {
     ) -> CoreBegin<CoreRender>
         ensures { BeginRender self.old self.new decoder target info.now submission result }
     {
-        match self.start_render(alloc, decoder, target, info, submission.bytes()) {
+        let units = count_units(submission.bytes());
+        self.begin_counted(alloc, decoder, target, info, submission, units)
+    }
+
+    /// The same, where the submission's units were counted before (`count_units`), so that a call that waits
+    /// doesn't read its bytes again at each look.
+    pub fn begin_counted(
+        &mut self,
+        alloc: Global,
+        decoder: u32,
+        target: u32,
+        info: &PictureInfo,
+        submission: Submission,
+        units: u32,
+    ) -> CoreBegin<CoreRender>
+        requires { HasUnits submission units }
+        ensures { BeginRender self.old self.new decoder target info.now submission result }
+    {
+        match self.start_render(alloc, decoder, target, info, submission.bytes(), units) {
             CoreAnswer::Now(Ok(job)) => CoreBegin::Job(job),
             CoreAnswer::Now(Err(refusal)) => CoreBegin::Refused {
                 submission: Some(submission),
@@ -54,7 +73,7 @@ impl Core {
         }
     }
 
-    // Looks at what was asked, in order, and begins the job.
+    // Looks at what was asked, in order, and only then begins the job, for which memory is taken.
     fn start_render(
         &mut self,
         alloc: Global,
@@ -62,41 +81,43 @@ impl Core {
         target: u32,
         info: &PictureInfo,
         bytes: &[u8],
+        units: u32,
     ) -> CoreAnswer<CoreRender>
-        requires { length bytes.now < 2 ^ 32 }
+        requires few { length bytes.now < 2 ^ 32 }
+        requires units { HasUnits bytes.now units }
         ensures { StartRender self.old self.new decoder target info.now bytes.now result }
     {
         let on = match self.may_render(decoder, target, info) {
             Ok(on) => on,
             Err(refusal) => return CoreAnswer::Now(Err(refusal)),
         };
-        let Ok(prepared) = Prepared::new(alloc, on.decoder.size, bytes) else {
-            return CoreAnswer::Now(Err(Refusal::OutOfMemory));
-        };
-        let found = prepared.units();
-        if found != info.slice_count {
-            return CoreAnswer::Now(Err(Refusal::SliceCount { found }));
+        if units != info.slice_count {
+            return CoreAnswer::Now(Err(Refusal::SliceCount { found: units }));
         }
         if self.some_written(&on) {
             return CoreAnswer::Later;
         }
-        CoreAnswer::Now(self.render_job(alloc, &on, info, prepared))
+        CoreAnswer::Now(self.render_job(alloc, &on, info, bytes))
     }
 
-    // Takes the memory that is still needed, and begins the job.
+    // Takes all memory that a render needs, and begins it.
     fn render_job(
         &mut self,
         alloc: Global,
         on: &Rendering,
         info: &PictureInfo,
-        prepared: Prepared,
+        bytes: &[u8],
     ) -> Result<CoreRender, Refusal>
-        requires videos { AreVideos (kept_of self.old.objects) info.now.references on.now }
+        requires videos { AreVideos (kept_of self.old.objects) on.now }
         requires accepted { IsAcceptedBySome info.now }
-        requires size { units.size_of prepared ≡ on.now.decoder.size }
-        ensures ok { IfOk result (HoldsRender self.old self.new on.now info.now prepared) }
+        requires size { IsWithinLimits on.now.decoder.size }
+        requires few { length bytes.now < 2 ^ 32 }
+        ensures ok { IfOk result (HoldsRender self.old self.new on.now info.now bytes.now) }
         ensures err { IfErr result (WantsMemory self.old self.new) }
     {
+        let Ok(prepared) = Prepared::new(alloc, on.decoder.size, bytes) else {
+            return Err(Refusal::OutOfMemory);
+        };
         if self.reserve_job().is_err() {
             return Err(Refusal::OutOfMemory);
         }

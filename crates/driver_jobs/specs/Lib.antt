@@ -1,3 +1,4 @@
 pub mod Ready
 pub mod Renders
 pub mod Mixes
+pub mod Units

@@ -6,6 +6,8 @@
 
 mod mixes;
 mod renders;
+mod units;
 
 pub use mixes::{CoreMix, CoreMixDone};
 pub use renders::{CoreRender, CoreRenderDone};
+pub use units::count_units;

@@ -36,4 +36,4 @@ pub use object::Object;
 pub use objects::Objects;
 pub use stored::Stored;
 pub use sweeps::sweep;
-pub use ticks::{Due, all_due, set_time, show_all};
+pub use ticks::{Due, all_due, is_due_written, set_time, show_all};

@@ -1,11 +1,13 @@
 // The ticks of a device's clock: which queues are due, and what becomes of them and of what they show.
-ghost use Rattle.std.specs.Prelude.{◌≡◌, ℕ, ◌<◌, List, filter_map, map, Some, IfOk};
+ghost use Rattle.std.specs.Prelude.{◌≡◌, ℕ, ◌<◌, ◌==◌, List, filter_map, map, Some, IfOk};
+ghost use Rattle.std.specs.List.{list_any};
 ghost use Rattle.driver_objects.specs.Kept.{IsGiven, kept_of, made_of};
 ghost use Rattle.driver_objects.specs.DeviceEnds.{AreNumbered};
 ghost use Rattle.driver_objects.specs.Kinds.{number_of};
 ghost use Rattle.driver_objects.specs.Ticks.{HaveNumbers, all_noted, all_ticked, due_of, noted, timed, with_flip, with_time};
 
 use crate::content::{Content, Device, LastFlip, OutputSurface};
+use crate::jobs::{OutJob, writes};
 use crate::lends::nothing;
 use crate::object::Object;
 use crate::objects::Objects;
@@ -44,6 +46,27 @@ pub fn all_due(
         }
     }
     Ok(dues)
+}
+
+/// Whether a job writes what a queue of the device that is due at this time is to show.
+pub fn is_due_written(
+    kept: &[Object],
+    queues: &Queues,
+    jobs: &[OutJob],
+    device: u64,
+    time: u64,
+) -> bool
+    requires { AreNumbered kept.now }
+    ensures { result ≡ list_any (λ due. list_any (λ job. job.target == due.surface) jobs.now) (filter_map (due_of queues.now device time) kept.now) }
+{
+    for object in kept {
+        if let Some(due) = due_of(object, queues, device, time) {
+            if writes(jobs, due.surface) {
+                return true;
+            }
+        }
+    }
+    false
 }
 
 // What the object is to show, if it is a queue of the device that is due.

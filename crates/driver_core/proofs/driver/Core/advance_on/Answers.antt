@@ -1,22 +1,23 @@
-use Rattle.std.proofs.Common.{◌≡◌, inl, false, refl, sym, ap, ◌∙◌}
+use Rattle.std.proofs.Common.{◌≡◌, inl, false, refl, sym, ◌∙◌}
 use Rattle.driver_model.specs.Clock.{ticked_at}
 use Rattle.driver_core.specs.Clocked.{AreDue, is_any_out}
 use Rattle.driver_core.proofs.ClockTicks.{tick_steps, tick_waits}
+use Rattle.driver_core.proofs.DueQueues.{dues_of}
 use Rattle.driver_core.proofs.driver.Core.advance_on.Goals as goal
 
-pub returns-then-is_any_out : goal.returns-then-is_any_out
-returns-then-is_any_out c device ticks d caller stands =
+pub returns-then-is_tick_held : goal.returns-then-is_tick_held
+returns-then-is_tick_held c device ticks d caller stands =
     let core = c.args.self.now in
-    let are : AreDue core c.args.on c.args.time c.deref.result.now = c.deref.ensures.value ∙ c.in-Ok.ensures in
-    (tick_waits core d device c.args.time c.args.on stands (ticks d stands) c.deref.result.now are (sym (c.is_any_out.ensures d stands) ∙ c.if-is_any_out.true), stands)
+    let dues = dues_of core c.args.on c.args.time in
+    (tick_waits core d device c.args.time c.args.on stands (ticks d stands) dues refl (sym (c.is_tick_held.ensures d dues stands refl) ∙ c.if-is_tick_held.true), stands)
 
 pub returns-in-Ok-flips : goal.returns-in-Ok-flips
 returns-in-Ok-flips c device ticks d caller stands =
     let core = c.args.self.now in
     let t = ticks d stands in
-    let dues = c.deref-2.result.now in
-    let are : AreDue core c.args.on c.args.time dues = c.deref-2.ensures.value ∙ c.in-Ok.ensures in
-    let home : is_any_out d dues ≡ false = ap (is_any_out d) (c.deref-2.ensures.value ∙ sym c.deref.ensures.value) ∙ (sym (c.is_any_out.ensures d stands) ∙ c.if-is_any_out.false) in
+    let dues = c.deref.result.now in
+    let are : AreDue core c.args.on c.args.time dues = c.deref.ensures.value ∙ c.in-Ok.ensures in
+    let home : is_any_out d dues ≡ false = sym (c.is_tick_held.ensures d dues stands are) ∙ c.if-is_tick_held.false in
     record {
       after = ticked_at d t.on c.args.time;
       step = tick_steps core d device c.args.time c.args.on stands t dues are caller home c.in-Ok-flips.flips c.in-Ok-flips.ensures.shows;

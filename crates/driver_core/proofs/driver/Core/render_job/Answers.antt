@@ -2,7 +2,9 @@ use Rattle.std.proofs.Common.{◌≡◌, ◌<◌, length, slice_get, Some, sym, 
 use Rattle.std.proofs.lemmas.List.{length-map}
 use Rattle.std.proofs.lemmas.Option.{slice_get_within}
 use Rattle.recon.specs.References.{pictures_of}
+use Rattle.decoder_render.specs.Submission.{ArePayloads}
 use Rattle.decoder_render.specs.declared.outcome.Outcome.TheVariants as outcome
+use Rattle.vd_plane.specs.Picture.{IsZeros}
 use Rattle.driver_model.specs.States.{free_number, with_content, with_note}
 use Rattle.driver_objects.specs.Contents.{HasVideo}
 use Rattle.driver_objects.specs.Kept.{kept_of}
@@ -39,13 +41,13 @@ returns-clause-ok c =
     let b = alike_at (kept_of c.reserve_job.new.self.objects) (kept_of c.share_references.new.self.objects) (sym shares.alike) target object mid in
     (b.0, b.1, ap (λ (o : Object). o.place) (sym b.2)) in
     record {
-      pictures = pictures_of c.in-Ok.refs;
-      count = length-map c.in-Ok.refs.pictures _ ∙ c.in-Ok.ensures.count;
-      lent = subst (λ (objects : Objects). AreLent (kept_of objects) c.args.on.now.references (pictures_of c.in-Ok.refs)) c.reserve_job.ensures.objects c.in-Ok.ensures.lent;
-      given = c.new.ensures.given;
-      payloads = c.new.ensures.payloads;
-      held = c.new.ensures.picture;
-      numbered = λ d stands. c.new.ensures.number ∙ (c.note-number.ensures.numbered ∙ ap free_number (numbers_same c.share_references.new.self d (shares.stands d (c.reserve_job.ensures.stands d stands))));
+      pictures = pictures_of c.in-Ok-share_references.refs;
+      count = length-map c.in-Ok-share_references.refs.pictures _ ∙ c.in-Ok-share_references.ensures.count;
+      lent = subst (λ (objects : Objects). AreLent (kept_of objects) c.args.on.now.references (pictures_of c.in-Ok-share_references.refs)) c.reserve_job.ensures.objects c.in-Ok-share_references.ensures.lent;
+      given = c.new-2.ensures.given;
+      units = subst (ArePayloads c.args.bytes.now) (sym c.new-2.ensures.payloads) c.in-Ok.ensures.units;
+      zeros = subst (λ p. IsZeros p c.args.on.now.decoder.size.width c.args.on.now.decoder.size.height) (sym c.new-2.ensures.picture) c.in-Ok.ensures.picture;
+      numbered = λ d stands. c.new-2.ensures.number ∙ (c.note-number.ensures.numbered ∙ ap free_number (numbers_same c.share_references.new.self d (shares.stands d (c.reserve_job.ensures.stands d stands))));
       picture = λ d caller object what stands there has.
           let b = later object there in
           subst (λ p. Stands c.note-number.new.self (with_note (with_content d p what) caller p outcome.Ok)) b.2

@@ -1,7 +1,7 @@
 use Rattle.std.proofs.Common.{Err, Ok, refl, subst}
 use Rattle.driver_core.specs.RenderStarts.{StartRender}
 use Rattle.driver_core.specs.declared.answer.CoreAnswer.TheVariants.{Later, Now}
-use Rattle.driver_core.proofs.driver.Core.begin_render.Goals as goal
+use Rattle.driver_core.proofs.driver.Core.begin_counted.Goals as goal
 
 pub returns-in-Now-Ok : goal.returns-in-Now-Ok
 returns-in-Now-Ok c =

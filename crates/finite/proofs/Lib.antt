@@ -1,0 +1,5 @@
+pub mod Deciding
+pub mod Equal
+pub mod Lists
+pub mod Numbers
+pub mod Sets

@@ -1,0 +1,13 @@
+pub mod Devices
+pub mod Shown
+pub mod States
+pub mod Counts
+pub mod Fullness
+pub mod Room
+pub mod QueueRuns
+pub mod QueueStands
+pub mod QueueSteps
+pub mod QueueTicks
+pub mod FlipParts
+pub mod TextOrder
+pub mod FlipWindows

@@ -1,0 +1,12 @@
+pub mod Settled
+pub mod Tables
+pub mod VectorsExist
+pub mod PicturesExist
+pub mod FilteredExist
+pub mod LumaExists
+pub mod MacroblocksExist
+pub mod ConstructionsExist
+pub mod MixedExist
+pub mod PackedExist
+pub mod CoverageExists
+pub mod OutcomesExist

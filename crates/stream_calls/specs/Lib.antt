@@ -1,0 +1,9 @@
+pub mod Counted
+pub mod Displays
+pub mod Laws
+pub mod OneDevice
+pub mod OutputPictures
+pub mod Promises
+pub mod Renders
+pub mod StreamCalls
+pub mod Strangers

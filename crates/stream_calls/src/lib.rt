@@ -1,0 +1,9 @@
+//! What the calls of one stream are in the history of a driver that is shared, in definitions: they stay on one device
+//! (specs/OneDevice.antt), and while no strangers call there (specs/Strangers.antt), they render the pictures of the
+//! stream's file (specs/Renders.antt), display those that a script of ticks shows (specs/Displays.antt), and promise
+//! no time too early (specs/Promises.antt). All of it is in specs/StreamCalls.antt.
+#![tactic(auto)]
+
+mod laws;
+
+pub use laws::{calls_count, feeding_keeps_stream_calls, no_calls_are_a_streams, strangers_call};

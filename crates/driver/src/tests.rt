@@ -65,11 +65,11 @@ fn call_by_two<R: Threads + Wait + Sync>(
         rt,
         || -> (Pass, Option<Vec<u64>>)
             requires { IsOf a driver.now }
-            ensures { IsOf result.0 driver.now }
+            ensures { IsOf result.0 driver.entry.now }
         { call_often(rt, alloc, driver, a, times) },
         || -> (Pass, Option<Vec<u64>>)
             requires { IsOf b driver.now }
-            ensures { IsOf result.0 driver.now }
+            ensures { IsOf result.0 driver.entry.now }
         { call_often(rt, alloc, driver, b, times) },
     );
     together(a.1, b.1)
@@ -170,14 +170,14 @@ fn wait_and_tick<R: Threads + Wait + Sync>(
         rt,
         || -> (Pass, Result<u64, Refusal>)
             requires { IsOf a driver.now }
-            ensures { IsOf result.0 driver.now }
+            ensures { IsOf result.0 driver.entry.now }
         {
             let idle = driver.block_until_idle(rt, a, queue, first);
             (idle.pass, idle.result)
         },
         || -> (Pass, Option<usize>)
             requires { IsOf b driver.now }
-            ensures { IsOf result.0 driver.now }
+            ensures { IsOf result.0 driver.entry.now }
         { tick_twice(rt, alloc, driver, b, device) },
     );
     (a.1, b.1)

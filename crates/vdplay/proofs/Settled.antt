@@ -4,7 +4,7 @@ use Rattle.std.proofs.lemmas.List.{take-append-drop}
 use Rattle.access_units.specs.AccessUnits.{AccessUnit}
 use Rattle.access_units.specs.Acceptors.{IsSettled}
 use Rattle.file_pictures.specs.Streams.{Stream}
-use Rattle.file_pictures.proofs.Onward.{settled_on}
+use Rattle.access_units.proofs.Onward.{settled_on}
 use Rattle.vdplay.specs.Reading.{IsFrontOf}
 
 by_end : (text file : List ℕ) (ended : Bool) (front : List AccessUnit) (au : AccessUnit) → text ≡ take (length text) file → (ended ≡ true → text ≡ file) → IsSettled text ended front au → IsSettled file true front au

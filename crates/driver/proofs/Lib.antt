@@ -1,1 +1,4 @@
+pub mod Jobs
 pub mod Made
+pub mod MixJobs
+pub mod RenderJobs

@@ -10,11 +10,14 @@ mod clock;
 mod decoders;
 mod devices;
 mod driver;
+mod items;
 mod kept;
 mod kernel;
 mod mixers;
+mod mixes;
 mod output_surfaces;
 mod queues;
+mod renders;
 mod status;
 #[cfg(test)]
 mod tests;
@@ -26,3 +29,5 @@ pub use driver::{Answered, Driver, Pass};
 pub use driver_core::{
     Capabilities, Flip, Flips, KeptCounts, Pixels, PresentStatus, Shown, SurfaceSize, Wish,
 };
+pub use mixes::{BeginMix, MixDone, MixJob};
+pub use renders::{BeginRender, RenderDone, RenderJob};

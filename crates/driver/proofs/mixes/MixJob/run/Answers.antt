@@ -1,0 +1,9 @@
+use Rattle.driver.specs.Passes.{view}
+use Rattle.driver.proofs.MixJobs.{mix_done}
+use Rattle.driver.proofs.mixes.MixJob.run.Goals as goal
+
+pub invariant_of-result : goal.invariant_of-result
+invariant_of-result g c = record {
+  begun = c.args.self.begun;
+  knows = mix_done (view c.args.self.pass).seen c.args.self.place c.args.self.job c.run-done.result c.args.self.knows c.run-done.ensures;
+}

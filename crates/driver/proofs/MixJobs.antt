@@ -6,6 +6,7 @@ use Rattle.decoder_render.specs.declared.outcome.Outcome.TheVariants as outcome
 use Rattle.device_lock.specs.Numbers.{Knows}
 use Rattle.device_lock.specs.Views.{IsSamePass}
 use Rattle.device_lock.specs.declared.view.View.{View}
+use Rattle.driver_core.proofs.Comings.{mixed_with}
 use Rattle.driver_core.specs.Begun.{BeginMix, BeginsMix}
 use Rattle.driver_core.specs.Ended.{EndMix}
 use Rattle.driver_core.specs.Owed.{OwesPixels}
@@ -26,7 +27,6 @@ use Rattle.driver_model.specs.declared.calls.Call.TheVariants.{Mix}
 use Rattle.driver_model.specs.declared.items.Item.{Item}
 use Rattle.driver_model.specs.declared.items.Item.TheVariants.{Called}
 use Rattle.driver_model.specs.declared.replies.Answer.TheVariants.{Done}
-use Rattle.render_outcomes.proofs.MixedExist.{mixed_bytes_exist}
 use Rattle.driver.proofs.Jobs.{begin_begun, ends_at, goes_on_at, is_out, noted, runs}
 use Rattle.driver.specs.InHand.{HasBytes, IsBegun, IsNoted, KnowsMix, KnowsMixDone}
 use Rattle.driver.specs.Standing.{StandsAt}
@@ -39,14 +39,13 @@ module _ (core : Core) (front : List Item) (d : State) (caller : List ℕ) (mixe
   -- The core stands behind the beginning.
   pub mix_stands : StandsAt core (front ++ begun_as caller mixer structure video output ∷ [])
   mix_stands =
-      let bytes = mixed_bytes_exist (mixes.picture_of job) (mixes.matrix_of job) (mixes.format_of job) in
-      let t = begins.takes bytes.0 bytes.1 in
+      let t = begins.takes in
       goes_on_at core front d caller (Mix mixer structure video output) (Ok Done) leads (record { after = t.after; step = t.step; stands = t.stands })
 
   -- and the job knows what it owes there
   pub mix_knows : KnowsMix (front ++ begun_as caller mixer structure video output ∷ []) (length front) job
   mix_knows bytes mixed =
-      let t = begins.takes bytes mixed in
+      let t = mixed_with core d caller mixer structure video output job begins bytes mixed in
       noted core front d caller (Mix mixer structure video output) outcome.Ok (mixes.number_of job) (λ after note. OwesPixels after note begins.on.output.value.size bytes)
       (HasBytes (mixes.size_of job) bytes) leads t
       (λ note comes owes. (

@@ -11,6 +11,7 @@ use Rattle.decoder_render.specs.declared.outcome.Outcome.{Outcome}
 use Rattle.device_lock.specs.Numbers.{Knows}
 use Rattle.device_lock.specs.Views.{IsSamePass}
 use Rattle.device_lock.specs.declared.view.View.{View}
+use Rattle.driver_core.proofs.Comings.{begun_with}
 use Rattle.driver_core.specs.Begun.{BeginRender, BeginsRender}
 use Rattle.driver_core.specs.Ended.{EndRender}
 use Rattle.driver_core.specs.Owed.{OwesPicture}
@@ -70,13 +71,13 @@ module _ (core : Core) (front : List Item) (d : State) (caller : List ℕ) (deco
   -- The core stands behind the beginning.
   pub render_stands : StandsAt core (front ++ begun_as caller decoder target info bytes (the_outcome job) ∷ [])
   render_stands =
-      let t = begins.takes (the_outcome job) (the_picture job) (is_its_outcome job) in
+      let t = begun_with core d caller decoder target info bytes job begins (the_outcome job) (the_picture job) (is_its_outcome job) in
       goes_on_at core front d caller (Render decoder target info bytes) (reply_of (the_outcome job)) leads (record { after = t.after; step = t.step; stands = t.stands })
 
   -- and the job knows what it owes there
   pub render_knows : KnowsRender (front ++ begun_as caller decoder target info bytes (the_outcome job) ∷ []) (length front) job
   render_knows outcome picture is =
-      let t = begins.takes outcome picture is in
+      let t = begun_with core d caller decoder target info bytes job begins outcome picture is in
       let size : (renders.given_of job).size ≡ begins.on.decoder.value.size = ap (λ (g : _). g.size) begins.holds in
       subst (λ o. IsNoted (front ++ begun_as caller decoder target info bytes o ∷ []) (length front) (renders.number_of job) outcome (HasPicture (renders.given_of job).size picture)) (sym (one_outcome job outcome picture is))
       (noted core front d caller (Render decoder target info bytes) outcome (renders.number_of job) (λ after note. OwesPicture after note begins.on.decoder.value.size picture)

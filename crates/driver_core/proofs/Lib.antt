@@ -66,3 +66,4 @@ pub mod ShownFlips
 pub mod ClockTicks
 pub mod LentReferences
 pub mod RenderStarts
+pub mod Comings

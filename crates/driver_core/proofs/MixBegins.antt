@@ -18,6 +18,7 @@ use Rattle.driver_model.specs.declared.calls.Call.TheVariants.{Mix}
 use Rattle.driver_model.proofs.Named.{named-Some}
 use Rattle.driver_objects.specs.Kept.{kept_of}
 use Rattle.driver_objects.specs.declared.content.Content.TheVariants as content
+use Rattle.render_outcomes.proofs.MixedExist.{mixed_bytes_exist}
 use Rattle.driver_core.specs.Begun.{BeginsMix, TakesWith}
 use Rattle.driver_core.specs.Jobs.{HasBytesThere}
 use Rattle.driver_core.specs.MixStarts.{FindsMix, HoldsMix, IsStart, OfPlaces, WantsMemory}
@@ -122,6 +123,10 @@ module _ (old new : Core) (handle structure surface onto : ℕ) (at : Mixing) (f
           };
         }
 
+    -- what the job's samples come to, which exists
+    comes : (bytes : List ℕ) × IsMixed (mixes.picture_of job) (mixes.matrix_of job) (mixes.format_of job) bytes
+    comes = mixed_bytes_exist (mixes.picture_of job) (mixes.matrix_of job) (mixes.format_of job)
+
     begins_mix : BeginsMix new d caller handle structure surface onto job
     begins_mix = record {
       on = on;
@@ -131,7 +136,9 @@ module _ (old new : Core) (handle structure surface onto : ℕ) (at : Mixing) (f
       matrix = matrix;
       format = format;
       zeros = holds.zeros ∙ ap (λ size. replicate (pixel_bytes size) 0) output_is.1;
-      takes = takes;
+      bytes = comes.0;
+      comes_to = comes.1;
+      takes = takes comes.0 comes.1;
     }
 
   pub started : is_mix_held d (finds d stands).0.on ≡ false → (result : Result CoreMix Refusal) → IfOk result (HoldsMix old new at) → IfErr result (WantsMemory old new)

@@ -3,6 +3,7 @@ use Rattle.std.proofs.Common.{◌≡◌, ℕ, ◌==◌, ◌||◌, ◌++◌, Bool
 use mathlib.Core.Bool.{false≢true}
 use Rattle.std.specs.Option.{option_and_then}
 use Rattle.std.specs.Result.{IsOkAnd}
+use Rattle.cb_types.specs.SizeMbs.{IsWithinLimits}
 use Rattle.cb_types.specs.declared.picture_info.PictureInfo.{PictureInfo}
 use Rattle.cb_types.specs.declared.size.SizeMbs.{SizeMbs}
 use Rattle.decoder_render.specs.Coverage.{given}
@@ -29,6 +30,7 @@ use Rattle.driver_model.specs.Steps.{Step}
 use Rattle.driver_model.specs.Waits.{Waits}
 use Rattle.driver_model.specs.declared.calls.Call.TheVariants as call
 use Rattle.driver_model.proofs.SizedLooks.{render_sizes}
+use Rattle.render_outcomes.proofs.OutcomesExist.{outcomes_exist}
 use Rattle.driver_objects.specs.Kept.{kept_of}
 use Rattle.driver_objects.specs.References.{some_written}
 use Rattle.driver_objects.specs.declared.references.Rendering.{Rendering as KeptRendering}
@@ -206,6 +208,10 @@ module _ (old new : Core) (decoder target : ℕ) (info : PictureInfo) (bytes : L
     owes = owes_after o picture;
   }
 
+  -- what the job's units come to, which exists
+  comes : (o : Outcome) × (picture : Picture) × IsOutcome (jobs.given_of job) (jobs.payloads_of job) o picture
+  comes = outcomes_exist (jobs.given_of job) (jobs.payloads_of job) (1, 16, job.ready) (subst IsWithinLimits job.sized job.prepared.memory.size_is)
+
   pub begins : BeginsRender new d caller decoder target info bytes job
   begins = record {
     on = on;
@@ -213,7 +219,10 @@ module _ (old new : Core) (decoder target : ℕ) (info : PictureInfo) (bytes : L
     units = holds.units;
     holds = held_now;
     zeros = subst (λ (size : SizeMbs). IsZeros (jobs.held_by job) size.width size.height) of_decoder holds.zeros;
-    takes = takes;
+    outcome = comes.0;
+    picture = comes.1;
+    comes_to = comes.2;
+    takes = takes comes.0 comes.1 comes.2;
   }
 
 -- what the start answers, where nothing was refused and nothing has to be waited for

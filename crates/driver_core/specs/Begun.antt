@@ -41,19 +41,21 @@ pub record TakesWith (core : Core) (d : State) (caller : List ℕ) (call : Call)
   pub numbered : note.number ≡ number
   pub owes : Owes after note
 
--- A render holds the units of the bytes, the info, the size and the references' samples of now, and a picture of zeros. The core takes
--- the step that has the outcome which that comes to, whichever it is.
+-- A render holds the units of the bytes, the info, the size and the references' samples of now, and a picture of zeros. That comes to an
+-- outcome, which is there at once, though the job finds it later; and the core takes the step that has it.
 pub record BeginsRender (core : Core) (d : State) (caller : List ℕ) (decoder target : ℕ) (info : PictureInfo) (bytes : List ℕ) (job : CoreRender) : Type 0 where
   pub on : Rendering
   pub looks : render d decoder target info ≡ Ok on
   pub units : ArePayloads bytes (renders.payloads_of job)
   pub holds : renders.given_of job ≡ given_now info on
   pub zeros : IsZeros (renders.held_by job) on.decoder.value.size.width on.decoder.value.size.height
-  pub takes : (outcome : Outcome) (picture : Picture)
-      → IsOutcome (renders.given_of job) (renders.payloads_of job) outcome picture
-      → TakesWith core d caller (Render decoder target info bytes) outcome (renders.number_of job) (λ after note. OwesPicture after note on.decoder.value.size picture)
+  pub outcome : Outcome
+  pub picture : Picture
+  pub comes_to : IsOutcome (renders.given_of job) (renders.payloads_of job) outcome picture
+  pub takes : TakesWith core d caller (Render decoder target info bytes) outcome (renders.number_of job) (λ after note. OwesPicture after note on.decoder.value.size picture)
 
--- A mix holds the video surface's samples, the mixer's matrix and the output surface's format of now, and zeros for the pixels.
+-- A mix holds the video surface's samples, the mixer's matrix and the output surface's format of now, and zeros for the pixels. The core
+-- takes the step that puts in what that comes to.
 pub record BeginsMix (core : Core) (d : State) (caller : List ℕ) (mixer structure video output : ℕ) (job : CoreMix) : Type 0 where
   pub on : Mixing
   pub looks : mix d mixer structure video output ≡ Ok on
@@ -62,9 +64,9 @@ pub record BeginsMix (core : Core) (d : State) (caller : List ℕ) (mixer struct
   pub matrix : mixes.matrix_of job ≡ on.mixer.value.matrix
   pub format : mixes.format_of job ≡ on.output.value.format
   pub zeros : mixes.held_by job ≡ replicate (pixel_bytes on.output.value.size) 0
-  pub takes : (bytes : List ℕ)
-      → IsMixed (mixes.picture_of job) (mixes.matrix_of job) (mixes.format_of job) bytes
-      → TakesWith core d caller (Mix mixer structure video output) outcome.Ok (mixes.number_of job) (λ after note. OwesPixels after note on.output.value.size bytes)
+  pub bytes : List ℕ
+  pub comes_to : IsMixed (mixes.picture_of job) (mixes.matrix_of job) (mixes.format_of job) bytes
+  pub takes : TakesWith core d caller (Mix mixer structure video output) outcome.Ok (mixes.number_of job) (λ after note. OwesPixels after note on.output.value.size bytes)
 
 -- What a call answers that begins a job or is refused, or else waits. In the latter two cases nothing has changed, and what was handed
 -- over comes back.

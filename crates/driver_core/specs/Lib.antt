@@ -18,3 +18,4 @@ pub mod Given
 pub mod Clocked
 pub mod Rendered
 pub mod RenderStarts
+pub mod Comings

@@ -33,6 +33,7 @@ use Rattle.driver_model.specs.Steps.{Step}
 use Rattle.driver_model.specs.Waits.{Waits}
 use Rattle.driver_model.specs.declared.calls.Call.TheVariants as call
 use Rattle.driver_model.proofs.Looks.{ok_is}
+use Rattle.driver_core.proofs.Comings.{begun_with}
 use Rattle.driver_core.specs.Begun.{BeginsRender, TakesWith}
 use Rattle.driver_core.specs.Owed.{IsOut, OwesPicture}
 use Rattle.driver_core.specs.Stands.{Stands, is_ok}
@@ -180,7 +181,7 @@ module _ (core : Core) (decoder : ℕ) (surfaces : List ℕ) (size : SizeMbs) (p
     Owes after note = OwesPicture after note begins.on.decoder.value.size picture_is
 
     takes : TakesWith middle d [] (call.Render decoder (handle_of surfaces number) inside bytes) outcome_is (jobs.number_of job) Owes
-    takes = begins.takes outcome_is picture_is is.outcome
+    takes = begun_with middle d [] decoder (handle_of surfaces number) inside bytes job begins outcome_is picture_is is.outcome
 
     decodes : HasDecoded (reply_of outcome_is) takes.after
     decodes = elim takes.step [

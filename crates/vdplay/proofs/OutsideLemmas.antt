@@ -1,9 +1,10 @@
 -- What a run leaves of shelf and sink, put together from what its parts leave.
-use Rattle.std.proofs.Common.{◌≡◌, ℕ, ◌≤◌, List, Result, Ok, Err, refl, ap, subst, ◌∙◌, arith}
+use Rattle.std.proofs.Common.{◌≡◌, ◌≢◌, ℕ, ◌≤◌, Bool, true, false, List, Option, Result, Ok, Err, refl, sym, ap, subst, ◌∙◌, arith}
 use Rattle.std.specs.Prelude.{IfErr, OnOk}
+use Rattle.std.specs.Io.KnownBytes.{Keeps}
 use Rattle.vd_outside.specs.Count.{raised}
 use Rattle.vdplay.specs.Outside.{AreSame, IsReadAlone, Leaves, LeavesCounts, ShelfState, SinkState, StopsReading, StopsWriting}
-use Rattle.vdplay.specs.Run.{IsDecided, exit_in}
+use Rattle.vdplay.specs.Run.{IsDecided, exit_in, refusal_of}
 use Rattle.vdplay.specs.declared.exit.Exit.{Exit}
 use Rattle.vdplay.specs.declared.exit.Exit.TheVariants.{Done, Usage, ReadFault, BadStream, WriteFault, OutOfMemory, TooLarge}
 

@@ -54,10 +54,10 @@ noted_still s t job is kept =
 
 -- ---- jobs that are run
 
-ready : (job : CoreRender) → IsAcceptedBySome (renders.given_of job).info
+pub ready : (job : CoreRender) → IsAcceptedBySome (renders.given_of job).info
 ready job = (1, 16, job.ready)
 
-limits : (job : CoreRender) → IsWithinLimits (renders.given_of job).size
+pub limits : (job : CoreRender) → IsWithinLimits (renders.given_of job).size
 limits job = subst IsWithinLimits job.sized job.prepared.memory.size_is
 
 -- A render comes to one outcome, and to one picture where that is Ok.

@@ -123,7 +123,7 @@ began_known front before after caller call outcome number Owes held known t owes
 
 -- ---- calls
 
-told : (reply : Reply) → reply_with (λ (answer : Answer). answer) reply ≡ reply
+pub told : (reply : Reply) → reply_with (λ (answer : Answer). answer) reply ≡ reply
 told (Ok answer) = refl
 told (Err refusal) = refl
 

@@ -1,21 +1,33 @@
 -- That what is done on a core has a history.
-use Rattle.std.specs.Prelude.{◌≡◌, ℕ, List, [], ◌++◌, length, slice_get, Some, ⊤}
+use Rattle.std.specs.Prelude.{◌≡◌, ℕ, false, List, [], ◌++◌, length, slice_get, Some, Result, ⊤}
 use Rattle.std.specs.List.{AllByRecursion}
+use Rattle.cb_types.specs.declared.picture_info.PictureInfo.{PictureInfo}
 use Rattle.decoder_render.specs.Outcomes.{IsOutcome}
 use Rattle.decoder_render.specs.declared.outcome.Outcome.{Outcome}
 use Rattle.decoder_render.specs.declared.outcome.Outcome.TheVariants as outcome
 use Rattle.driver_jobs.specs.Mixes as mixes
 use Rattle.driver_jobs.specs.Renders as renders
+use Rattle.driver_jobs.specs.declared.renders.CoreRender.{CoreRender}
 use Rattle.mixer.specs.Mixed.{IsMixed}
 use Rattle.vd_plane.specs.declared.picture.Picture.{Picture}
+use Rattle.vd_status.specs.declared.refusal.Refusal.{Refusal}
+use Rattle.driver_model.specs.Answers.{Reply, reply_with}
 use Rattle.driver_model.specs.Ends.{IsReplyOfJob}
 use Rattle.driver_model.specs.Histories.{IsStateOf}
+use Rattle.driver_model.specs.Passes.{is_job}
 use Rattle.driver_model.specs.States.{Note, State, empty_state}
+use Rattle.driver_model.specs.declared.calls.Call.{Call}
+use Rattle.driver_model.specs.declared.calls.Call.TheVariants.{Render}
 use Rattle.driver_model.specs.declared.items.Item.{Item}
+use Rattle.driver_model.specs.declared.replies.Answer.{Answer}
+use Rattle.driver_core.specs.Answered.{Calls}
+use Rattle.driver_core.specs.Begun.{BeginRender}
 use Rattle.driver_core.specs.Owed.{OwesPicture, OwesPixels}
 use Rattle.driver_core.specs.Stands.{Stands}
+use Rattle.driver_core.specs.declared.answer.CoreAnswer.TheVariants.{Now}
+use Rattle.driver_core.specs.declared.answer.CoreBegin.TheVariants as begin
 use Rattle.driver_core.specs.declared.driver.Core.{Core}
-use Rattle.core_runs.specs.Deeds.{Deed, Finished, Held, IsRun, Mixed, Moment, OpenJob, Rendered, ToMix, ToRender, run_items}
+use Rattle.core_runs.specs.Deeds.{Deed, Finished, Held, IsBegun, IsReplied, IsRun, Mixed, Moment, OpenJob, Rendered, ToMix, ToRender, run_items}
 
 -- The note is that of the job that is held so: it has the job's number and outcome, and the surface is owed what the job comes to.
 abbrev pub IsNoteOf : Held → State → Note → Type 0
@@ -82,3 +94,18 @@ StatesAreKnown =
     → IsStateOf front state
     → Stands core state
     → IsKnown front (record { core = core; items = length front; jobs = [] })
+
+-- Each render that a core begins is such a deed: there is a reply to which its job comes.
+abbrev pub BegunRendersComeToReplies : Type 0
+BegunRendersComeToReplies =
+    (old new : Core) (decoder target : ℕ) (info : PictureInfo) (bytes : List ℕ) (job : CoreRender)
+    → BeginRender old new decoder target info bytes (begin.Job job)
+    → (reply : Reply) × IsBegun old new (Render decoder target info bytes) reply (ToRender job)
+
+-- So is each call that isn't a job's and that a core answers.
+abbrev pub AnswersAreReplies : Type 0 → Type 0
+AnswersAreReplies A =
+    (old new : Core) (call : Call) (answer : A → Answer) (result : Result A Refusal)
+    → is_job call ≡ false
+    → Calls old new call answer (Now result)
+    → IsReplied old new call (reply_with answer result)

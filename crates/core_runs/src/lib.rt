@@ -4,4 +4,4 @@
 
 mod laws;
 
-pub use laws::runs_have_histories;
+pub use laws::{answers_are_replies, begun_renders_come_to_replies, runs_have_histories};

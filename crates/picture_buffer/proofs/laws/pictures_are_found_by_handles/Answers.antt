@@ -1,0 +1,5 @@
+use Rattle.picture_buffer.proofs.HandleRenders as renders
+use Rattle.picture_buffer.proofs.laws.pictures_are_found_by_handles.Goals as goal
+
+pub returns : goal.returns
+returns c = renders.renders_find_pictures

@@ -1,0 +1,9 @@
+// What is known of pictures by the handles of their surfaces.
+ghost use Rattle.picture_buffer.specs.Handles.{RendersFindPictures};
+
+/// Where each number's surface has the picture that was last decoded with the number, a render of the next picture
+/// whose references are given by the surfaces' handles comes to what its units come to with the pictures by their
+/// numbers; and then its own number's surface has it.
+pub fn pictures_are_found_by_handles()
+    ensures { RendersFindPictures }
+{}

@@ -14,16 +14,20 @@ use Rattle.decoder_render.specs.Coverage.{given}
 use Rattle.decoder_render.specs.Renamed.{with_surface}
 use Rattle.vd_plane.specs.declared.picture.Picture.{Picture}
 use Rattle.vd_status.specs.declared.refusal.Refusal.TheVariants.{BadInfo, BadSize, DeviceMismatch, TargetIsReference}
-use Rattle.driver_model.specs.Objects.{Decoder, VideoSurface, as_decoder, as_video}
+use Rattle.driver_model.specs.Objects.{Decoder, Device, VideoSurface, as_decoder, as_device, as_video}
 use Rattle.driver_model.specs.Refusals.{Looked, ◌>>=◌, ◌>>◌, further_handle, refused_if}
 use Rattle.driver_model.specs.Renders.{Rendering, given_now, info_taken, is_of_other_size, is_own_reference, reference, references, render, rendering}
 use Rattle.driver_model.specs.Sizes.{is_same_size}
-use Rattle.driver_model.specs.States.{Found, State, named}
+use Rattle.driver_model.specs.States.{Found, State, content_at, is_preempted, named}
 use Rattle.driver_model.proofs.Rows.{in_use-is}
 use Rattle.picture_buffer.specs.Renaming.{HasNumber, IsOther, handle_of, picture_of, renamed, renamed_entry}
 use Rattle.picture_buffer.specs.Handles.{FindsPictures}
 use Rattle.picture_buffer.specs.Rest.{decoder_at, surface_at}
 use Rattle.picture_buffer.proofs.Entries.{no_other_name}
+
+-- a device that stands there and isn't preempted
+not_preempted : (d : State) (device : ℕ) (root : Device) → content_at d as_device device ≡ Some root → root.is_preempted ≡ false → is_preempted d device ≡ false
+not_preempted d device root stands awake = ap (λ (o : Option Device). option_map_or (λ (of : Device). of.is_preempted) o false) stands ∙ awake
 
 -- ---- the fields of the info
 
@@ -119,7 +123,7 @@ module _ (decoder : ℕ) (surfaces : List ℕ) (size : SizeMbs) (pictures : ℕ 
     rendering_is =
         let behind : Found Decoder → Looked Rendering = λ one. further_handle 1 one.device (named d as_video (handle_of surfaces number)) >>= λ target. references d one.device 2 entries >>= λ found. Ok (record { decoder = one; target = target; references = found }) in
         let decodes = decoder_at finds.decoder_place finds.device size in
-        ap (λ (l : Looked (Found Decoder)). l >>= behind) (in_use-is d 0 (named d as_decoder decoder) decodes finds.decodes finds.awake)
+        ap (λ (l : Looked (Found Decoder)). l >>= behind) (in_use-is d 0 (named d as_decoder decoder) decodes finds.decodes (not_preempted d finds.device finds.root finds.stands finds.awake))
         ∙ (ap (λ (l : Looked (Found VideoSurface)). l >>= λ target. references d finds.device 2 entries >>= λ found. Ok (record { decoder = decodes; target = target; references = found }))
         (further_is 1 finds.device (named d as_video (handle_of surfaces number)) (surface number) (finds.each number small).names refl)
         ∙ ap (λ (l : Looked (List (Option (Found VideoSurface)))). l >>= λ found. Ok (record { decoder = decodes; target = surface number; references = found })) (all_found 2 info.references numbered))

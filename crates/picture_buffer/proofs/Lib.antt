@@ -14,3 +14,5 @@ pub mod HandleEntries
 pub mod HandleLooks
 pub mod HandleMoves
 pub mod HandleRenders
+pub mod HandleSteps
+pub mod HandleKept

@@ -1,9 +1,11 @@
 // What is known of pictures by the handles of their surfaces.
-ghost use Rattle.picture_buffer.specs.Handles.{RendersFindPictures};
+ghost use Rattle.picture_buffer.specs.Handles.{RendersFindPictures, StepsLeavePictures};
 
 /// Where each number's surface has the picture that was last decoded with the number, a render of the next picture
 /// whose references are given by the surfaces' handles comes to what its units come to with the pictures by their
-/// numbers; and then its own number's surface has it.
+/// numbers; and then its own number's surface has it. Each call that doesn't touch the surfaces, their decoder or their
+/// device keeps what is known of them.
 pub fn pictures_are_found_by_handles()
-    ensures { RendersFindPictures }
+    ensures found { RendersFindPictures }
+    ensures kept { StepsLeavePictures }
 {}

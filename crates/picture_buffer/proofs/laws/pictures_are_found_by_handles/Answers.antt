@@ -1,5 +1,9 @@
+use Rattle.picture_buffer.proofs.HandleKept as kept
 use Rattle.picture_buffer.proofs.HandleRenders as renders
 use Rattle.picture_buffer.proofs.laws.pictures_are_found_by_handles.Goals as goal
 
 pub returns : goal.returns
-returns c = renders.renders_find_pictures
+returns c = record {
+  found = renders.renders_find_pictures;
+  kept = kept.steps_leave_pictures;
+}

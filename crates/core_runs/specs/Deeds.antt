@@ -1,5 +1,5 @@
--- What is done on a core, one thing after the other: calls that are answered or put off, and jobs that are begun, run and ended. Each is
--- what the contract of the core's method says.
+-- What is done on a core, one thing after the other: calls that are answered or put off, and jobs that are begun, run and
+-- ended. Each is what the contract of the core's method says.
 use Rattle.std.specs.Prelude.{◌≡◌, ℕ, ◌+◌, ◌==◌, not, List, [], ◌∷◌, ◌++◌, filter, Option, Result, Err}
 use Rattle.decoder_render.specs.Outcomes.{IsOutcome}
 use Rattle.decoder_render.specs.declared.outcome.Outcome.{Outcome}
@@ -112,9 +112,13 @@ module _ (old new : Core) where
   -- The job, which was run, is ended, and this is answered.
   abbrev pub IsFinished : Held → Reply → Type 0
   IsFinished (Rendered done) reply =
-      (result : Result (Unit {0}) Refusal) × EndRender old new done (answer.Now result) × (reply ≡ reply_with (λ nothing. Done) result)
+      (result : Result (Unit {0}) Refusal)
+      × EndRender old new done (answer.Now result)
+      × (reply ≡ reply_with (λ nothing. Done) result)
   IsFinished (Mixed done) reply =
-      (result : Result (Unit {0}) Refusal) × EndMix old new done (answer.Now result) × (reply ≡ reply_with (λ nothing. Done) result)
+      (result : Result (Unit {0}) Refusal)
+      × EndMix old new done (answer.Now result)
+      × (reply ≡ reply_with (λ nothing. Done) result)
   IsFinished _ reply = ⊥
 
 -- The job is run, and comes to this.
@@ -164,7 +168,8 @@ Does before (Began entry) after =
     × IsBegun before.core after.core entry.call entry.reply held
     × (after.items ≡ before.items + 1)
     × (after.jobs ≡ before.jobs ++ record { place = before.items; caller = entry.caller; held = held } ∷ [])
-Does before (Ran place) after = Runs before place after × (after.items ≡ before.items) × (after.core ≡ before.core)
+Does before (Ran place) after =
+    Runs before place after × (after.items ≡ before.items) × (after.core ≡ before.core)
 Does before (Finished mark reply) after = Finishes before mark reply after × (after.items ≡ before.items + 1)
 
 -- One after the other, from a moment to another.

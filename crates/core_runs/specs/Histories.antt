@@ -29,7 +29,8 @@ use Rattle.driver_core.specs.declared.answer.CoreBegin.TheVariants as begin
 use Rattle.driver_core.specs.declared.driver.Core.{Core}
 use Rattle.core_runs.specs.Deeds.{Deed, Finished, Held, IsBegun, IsReplied, IsRun, Mixed, Moment, OpenJob, Rendered, ToMix, ToRender, run_items}
 
--- The note is that of the job that is held so: it has the job's number and outcome, and the surface is owed what the job comes to.
+-- The note is that of the job that is held so: it has the job's number and outcome, and the surface is owed what the job
+-- comes to.
 abbrev pub IsNoteOf : Held → State → Note → Type 0
 IsNoteOf (ToRender job) s note =
     (outcome : Outcome) × (picture : Picture)
@@ -61,8 +62,8 @@ pub record IsNoted (s : State) (job : OpenJob) : Type 0 where
   pub of_caller : note.caller ≡ job.caller
   pub owes : IsNoteOf job.held s note
 
--- The history has so many items and leads to a state for which the core stands, and each job that was begun and hasn't ended has its note
--- there. So the history is legal.
+-- The history has so many items and leads to a state for which the core stands, and each job that was begun and hasn't
+-- ended has its note there. So the history is legal.
 pub record IsKnown (history : List Item) (moment : Moment) : Type 0 where
   pub state : State
   pub leads : IsStateOf history state

@@ -1,5 +1,5 @@
 -- What is known of pictures by their handles is kept by a step that doesn't touch their surfaces.
-use Rattle.std.proofs.Common.{◌≡◌, ◌≢◌, ℕ, ◌<◌, true, false, List, [], ◌∷◌, ◌++◌, map, slice_get, Option, Some, None, refl, ap, sym, ◌∙◌, subst}
+use Rattle.std.proofs.Common.{◌≡◌, ◌≢◌, ℕ, ◌<◌, true, false, List, [], ◌∷◌, ◌++◌, map, slice_get, Option, Some, None, refl, ap, sym, ◌∙◌, subst, arith}
 use Rattle.std.specs.List.{AllPairs}
 use Rattle.std.specs.Option.{option_and_then}
 use Rattle.cb_types.specs.declared.size.SizeMbs.{SizeMbs}
@@ -12,14 +12,15 @@ use Rattle.driver_model.specs.Steps.{Step}
 use Rattle.driver_model.specs.declared.calls.Call.{Call}
 use Rattle.driver_model.specs.declared.calls.Call.TheVariants as call
 use Rattle.driver_model.specs.declared.items.Item.{Item}
-use Rattle.driver_model.specs.declared.items.Item.TheVariants.{Called}
+use Rattle.driver_model.specs.declared.items.Item.TheVariants.{Called, Ended}
 use Rattle.driver_model.proofs.Leading.{histories_go_on, names_are_given, names_are_given_once}
 use Rattle.driver_model.proofs.Named.{named-Some, named-is}
 use Rattle.driver_model.proofs.NoteLists.{nothing_at, some_is}
 use Rattle.driver_objects.proofs.JobLists.{one_index}
-use Rattle.picture_buffer.specs.Handles.{FindsPictures, LeavesPictures, StepsLeavePictures}
+use Rattle.picture_buffer.specs.Handles.{FindsPictures, ItemsLeavePictures, LeavesPictures, StepsLeavePictures}
 use Rattle.picture_buffer.specs.Renaming.{handle_of}
 use Rattle.picture_buffer.specs.Rest.{decoder_at, surface_at}
+use Rattle.picture_buffer.proofs.HandleMoves.{finds_still}
 use Rattle.picture_buffer.proofs.HandleSteps.{LeavesPlace, is_kept, still, step_stays}
 
 -- ---- objects that are kept
@@ -238,3 +239,11 @@ steps_leave_pictures history decoder handles size pictures old new caller asked 
             sized = each.sized;
           };
     }
+
+-- how many items there were, and which jobs run, says nothing of the pictures
+pub items_leave_pictures : ItemsLeavePictures
+items_leave_pictures history decoder handles size pictures old new (Called entry) leads finds leaves happens =
+    let between = steps_leave_pictures history decoder handles size pictures old happens.0 entry.caller entry.call entry.reply leads finds leaves happens.1 in
+    finds_still decoder handles size pictures happens.0 between 0 (omega arith) new (ap (λ (s : State). s.objects) happens.2)
+items_leave_pictures history decoder handles size pictures old new (Ended mark) leads finds leaves happens =
+    finds_still decoder handles size pictures old finds 0 (omega arith) new (ap (λ (s : State). s.objects) happens.1)

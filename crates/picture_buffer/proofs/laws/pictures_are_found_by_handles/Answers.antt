@@ -6,4 +6,5 @@ pub returns : goal.returns
 returns c = record {
   found = renders.renders_find_pictures;
   kept = kept.steps_leave_pictures;
+  items = kept.items_leave_pictures;
 }

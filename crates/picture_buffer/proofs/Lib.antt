@@ -10,3 +10,9 @@ pub mod Decoded
 pub mod MakingFinds
 pub mod MakingAnswers
 pub mod MakingSteps
+pub mod HandleEntries
+pub mod HandleLooks
+pub mod HandleMoves
+pub mod HandleRenders
+pub mod HandleSteps
+pub mod HandleKept

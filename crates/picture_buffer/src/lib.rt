@@ -2,7 +2,9 @@
 #![tactic(auto)]
 
 mod buffer;
+mod laws;
 mod making;
 mod renaming;
 
 pub use buffer::{NUMBERS, PictureBuffer};
+pub use laws::pictures_are_found_by_handles;

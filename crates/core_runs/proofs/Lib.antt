@@ -1,0 +1,4 @@
+pub mod Lists
+pub mod Jobs
+pub mod Runs
+pub mod Deeds

@@ -16,7 +16,6 @@ use Rattle.driver_jobs.specs.Renders as renders
 use Rattle.driver_jobs.specs.declared.mixes.CoreMix.{CoreMix}
 use Rattle.driver_jobs.specs.declared.renders.CoreRender.{CoreRender}
 use Rattle.mixer.specs.Mixed.{IsMixed}
-use Rattle.render_outcomes.proofs.MixedExist.{mixed_bytes_exist}
 use Rattle.vd_plane.specs.declared.picture.Picture.{Picture}
 use Rattle.driver_core.specs.Answered.{Takes}
 use Rattle.driver_core.specs.Begun.{BeginsMix, BeginsRender, TakesWith}
@@ -43,7 +42,7 @@ use Rattle.driver_model.specs.declared.items.Item.TheVariants.{Called, Ended}
 use Rattle.driver_model.specs.declared.items.Mark.{Mark}
 use Rattle.driver_model.specs.declared.replies.Answer.{Answer}
 use Rattle.driver_objects.proofs.Lists.{any_at}
-use Rattle.core_runs.proofs.Jobs.{noted_still, runs_to}
+use Rattle.core_runs.proofs.Jobs.{one_outcome, noted_still, runs_to}
 use Rattle.core_runs.proofs.Lists.{all_and, all_at, all_left, all_middle, all_then, all_with}
 use Rattle.core_runs.specs.Deeds.{Began, Deed, Does, Finished, Finishes, Held, IsBegun, IsFinished, IsPutOff, IsReplied, IsRun, Mixed, Moment, OpenJob, PutOff, Ran, Rendered, Replied, Runs, ToMix, ToRender, deed_items, run_items}
 use Rattle.core_runs.specs.Histories.{AnswersAsBegun, IsKnown, IsNoteOf, IsNoted, NewCoresAreKnown, RunsHaveHistories, StatesAreKnown}
@@ -150,15 +149,18 @@ render_takes : (core : Core) (d : State) (caller : List ℕ) (decoder target : �
     → (outcome : Outcome) (picture : Picture) → IsOutcome (renders.given_of job) (renders.payloads_of job) outcome picture
     → (now : Picture) × IsOutcome (renders.given_of job) (renders.payloads_of job) outcome now
     × TakesWith core d caller (Render decoder target info bytes) outcome (renders.number_of job) (λ after note. OwesPicture after note begins.on.decoder.value.size now)
-render_takes core d caller decoder target info bytes job begins outcome picture is = (picture, is, begins.takes outcome picture is)
+render_takes core d caller decoder target info bytes job begins outcome picture is =
+    let one : begins.outcome ≡ outcome = one_outcome job begins.outcome outcome begins.picture picture begins.comes_to is in (
+      begins.picture,
+      subst (λ o. IsOutcome (renders.given_of job) (renders.payloads_of job) o begins.picture) one begins.comes_to,
+      subst (λ o. TakesWith core d caller (Render decoder target info bytes) o (renders.number_of job) (λ after note. OwesPicture after note begins.on.decoder.value.size begins.picture)) one begins.takes,
+    )
 
 -- and at a mix
 mix_takes : (core : Core) (d : State) (caller : List ℕ) (mixer structure video output : ℕ) (job : CoreMix) (begins : BeginsMix core d caller mixer structure video output job)
     → (bytes : List ℕ) × IsMixed (mixes.picture_of job) (mixes.matrix_of job) (mixes.format_of job) bytes
     × TakesWith core d caller (Mix mixer structure video output) outcome.Ok (mixes.number_of job) (λ after note. OwesPixels after note begins.on.output.value.size bytes)
-mix_takes core d caller mixer structure video output job begins =
-    let bytes = mixed_bytes_exist (mixes.picture_of job) (mixes.matrix_of job) (mixes.format_of job) in
-    (bytes.0, bytes.1, begins.takes bytes.0 bytes.1)
+mix_takes core d caller mixer structure video output job begins = (begins.bytes, begins.comes_to, begins.takes)
 
 begun : (front : List Item) (before after : Moment) (caller : List ℕ) (call : Call) (reply : Reply) (held : Held) (known : IsKnown front before)
     → IsBegun before.core after.core call reply held → after.items ≡ before.items + 1

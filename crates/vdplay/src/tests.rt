@@ -4,7 +4,7 @@ ghost use Rattle.std.specs.Io.KnownBytes.{WriteAppends};
 ghost use Rattle.access_units.specs.Acceptors.{Past};
 ghost use Rattle.access_units.specs.Standing as standing;
 ghost use Rattle.file_pictures.specs.Streams as streams;
-ghost use Rattle.file_pictures.specs.Streams.{Stream};
+ghost use Rattle.accepted_pictures.specs.Streams.{Stream};
 ghost use Rattle.vd_outside.specs.Count.{HasCause};
 ghost use Rattle.vd_outside.specs.Shelf.{Fills, IsMissing, told};
 

@@ -1,5 +1,6 @@
 use Rattle.std.proofs.Common.{◌≡◌, ◌+◌, ◌∙◌, ℕ, List, length, ap, subst, arith, length-append}
-use Rattle.file_pictures.specs.Streams.{IsStep, MayFeed, Stream, showing, streamed}
+use Rattle.accepted_pictures.specs.Streams.{MayFeed, Stream, showing, streamed}
+use Rattle.file_pictures.specs.Streams.{IsStep}
 use Rattle.file_pictures.specs.declared.stream_decoder.DecodedPicture.{DecodedPicture}
 use Rattle.file_pictures.specs.declared.stream_decoder.Step.{Step}
 use Rattle.file_pictures.specs.declared.stream_decoder.Step.TheVariants as step

@@ -1,5 +1,6 @@
 use Rattle.std.proofs.Common.{◌≡◌, ◌+◌, length}
-use Rattle.file_pictures.specs.Streams.{StandsFor, Stream}
+use Rattle.accepted_pictures.specs.Streams.{Stream}
+use Rattle.file_pictures.specs.Streams.{StandsFor}
 use Rattle.vdplay.proofs.tests.decoded.Given as goal
 
 -- all bytes were fed

@@ -3,7 +3,7 @@ use Rattle.std.proofs.Common.{◌≡◌, ℕ, Bool, true, false, List, [], ◌�
 use Rattle.access_units.proofs.OneAnswer.{not_hungry}
 use Rattle.access_units.proofs.Onward.{settled_at_end}
 use Rattle.accepted_pictures.specs.Files.{Fault, IsReadTo, IsReadWhole}
-use Rattle.accepted_pictures.specs.Streams.{IsNextOne, MayFeed, Stream, past_of, streamed}
+use Rattle.accepted_pictures.specs.Streams.{MayFeed, Stream, past_of, streamed}
 use Rattle.file_pictures.specs.Streams.{IsStep, IsStreamedOn, Stays, StaysIfLast}
 use Rattle.file_pictures.specs.declared.stream_decoder.Step.{Step}
 use Rattle.file_pictures.specs.declared.stream_decoder.Step.TheVariants as step

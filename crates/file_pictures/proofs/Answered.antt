@@ -19,9 +19,10 @@ use Rattle.picture_buffer.specs.Renaming.{IsOther, picture_of}
 use Rattle.picture_buffer.specs.declared.buffer.PictureBuffer.{PictureBuffer}
 use Rattle.access_units.specs.Pictures.{Picture, payloads_of}
 use Rattle.access_units.specs.declared.acceptor.Unsettled.{Unsettled}
-use Rattle.file_pictures.specs.Files.{Decoded, references_of}
+use Rattle.accepted_pictures.specs.Files.{Decoded, references_of}
 use Rattle.file_pictures.specs.Offers.{AreKeptBehind, AreSamples, IsOffered, Offer, with_samples}
-use Rattle.file_pictures.specs.Streams.{HaveSize, IsKept, IsStep, Keeps, StandsFor, StaysIfLast, Stream, newest_sequence, past_of}
+use Rattle.accepted_pictures.specs.Streams.{Stream, past_of}
+use Rattle.file_pictures.specs.Streams.{HaveSize, IsKept, IsStep, Keeps, StandsFor, StaysIfLast, newest_sequence}
 use Rattle.file_pictures.specs.declared.stream_decoder.Step.{Step}
 use Rattle.file_pictures.specs.declared.stream_decoder.StreamDecoder.{StreamDecoder}
 use Rattle.file_pictures.proofs.Kept.{gone_on, keeps_more, kept_on, references_are, sized_on}

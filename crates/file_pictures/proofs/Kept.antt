@@ -15,7 +15,7 @@ use Rattle.picture_buffer.specs.Renaming.{picture_of}
 use Rattle.picture_buffer.specs.declared.buffer.PictureBuffer.{PictureBuffer}
 use Rattle.access_units.specs.Pictures.{Picture, has_number, size_in}
 use Rattle.access_units.specs.Sequences.{sequence_of}
-use Rattle.file_pictures.specs.Files.{Decoded, has_own_number, reference_of, references_of}
+use Rattle.accepted_pictures.specs.Files.{Decoded, has_own_number, reference_of, references_of}
 use Rattle.file_pictures.specs.Streams.{HaveSize, IsKept, Keeps, newest_of, newest_sequence}
 
 -- ---- the sequence that a picture goes on with

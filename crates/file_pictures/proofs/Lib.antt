@@ -1,10 +1,5 @@
 pub mod Payloads
 pub mod Kept
 pub mod Steps
-pub mod Onward
 pub mod OneStep
 pub mod Answered
-pub mod OneDecoded
-pub mod OneReading
-pub mod SomeContent
-pub mod SomeReading

@@ -25,9 +25,10 @@ use Rattle.access_units.specs.declared.acceptor.Acceptor.{Acceptor}
 use Rattle.access_units.specs.declared.acceptor.Next.{Next}
 use Rattle.access_units.specs.declared.acceptor.Next.TheVariants as next
 use Rattle.access_units.specs.declared.acceptor.Unsettled.{Unsettled}
-use Rattle.file_pictures.specs.Files.{AreAllWhole, Decoded, IsReadTo, IsWholeBehind, pictures_in, references_of}
+use Rattle.accepted_pictures.specs.Files.{AreAllWhole, Decoded, IsReadTo, IsWholeBehind, pictures_in, references_of}
 use Rattle.file_pictures.specs.Offers.{AreKeptBehind, AreSamples, IsOffered, Offer, with_samples}
-use Rattle.file_pictures.specs.Streams.{GoesOn, IsBroken, IsKept, IsNextOne, IsStep, MayFeed, Shows, StandsFor, Stream, newest_sequence, no_stream, past_of, showing, streamed}
+use Rattle.accepted_pictures.specs.Streams.{IsNextOne, MayFeed, Stream, no_stream, past_of, showing, streamed}
+use Rattle.file_pictures.specs.Streams.{GoesOn, IsBroken, IsKept, IsStep, Shows, StandsFor, newest_sequence}
 use Rattle.file_pictures.specs.declared.stream_decoder.Step.TheVariants as step
 use Rattle.file_pictures.specs.declared.stream_decoder.StreamDecoder.{StreamDecoder}
 use Rattle.file_pictures.proofs.Payloads.{slices_have_payloads}

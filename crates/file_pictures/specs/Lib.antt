@@ -1,3 +1,2 @@
-pub mod Files
 pub mod Streams
 pub mod Offers

@@ -6,8 +6,9 @@ use Rattle.access_units.specs.Acceptors as acceptors
 use Rattle.access_units.specs.Pictures.{Picture}
 use Rattle.access_units.specs.Standing as acceptor
 use Rattle.access_units.specs.declared.acceptor.Unsettled.{Unsettled}
-use Rattle.file_pictures.specs.Files.{AreAllWhole, Decoded, IsWholeBehind}
-use Rattle.file_pictures.specs.Streams.{IsKept, Stream, newest_sequence, past_of}
+use Rattle.accepted_pictures.specs.Files.{AreAllWhole, Decoded, IsWholeBehind}
+use Rattle.accepted_pictures.specs.Streams.{Stream, past_of}
+use Rattle.file_pictures.specs.Streams.{IsKept, newest_sequence}
 use Rattle.file_pictures.specs.declared.stream_decoder.StreamDecoder.{StreamDecoder}
 
 -- what was fed and given before, and the picture

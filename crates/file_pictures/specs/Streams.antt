@@ -1,5 +1,5 @@
 -- What a decoder of a file stands for, and what it answers.
-use Rattle.std.specs.Prelude.{◌≡◌, ℕ, ◌≤◌, Bool, true, false, List, [], ◌∷◌, ◌++◌, ◌⊎◌, length, All, Option, Some, None}
+use Rattle.std.specs.Prelude.{◌≡◌, ℕ, ◌≤◌, true, false, List, [], ◌∷◌, ◌⊎◌, All, Option, Some, None}
 use Rattle.std.specs.Arc.{arc_value}
 use Rattle.std.specs.List.{find}
 use Rattle.std.specs.Option.{option_map}
@@ -7,38 +7,17 @@ use Rattle.cb_types.specs.declared.size.SizeMbs.{SizeMbs}
 use Rattle.vd_plane.specs.declared.picture.Picture as samples
 use Rattle.picture_buffer.specs.Buffers as buffers
 use Rattle.picture_buffer.specs.declared.buffer.PictureBuffer.{PictureBuffer}
-use Rattle.access_units.specs.AccessUnits.{AccessUnit}
-use Rattle.access_units.specs.Acceptors.{IsHungry, IsNext, IsSettled, Past, giving, settling}
+use Rattle.access_units.specs.Acceptors.{IsHungry, IsNext, giving, settling}
 use Rattle.access_units.specs.Depth.{depth_of}
 use Rattle.access_units.specs.Pictures.{Picture, has_number, size_in}
 use Rattle.access_units.specs.Sequences.{sequence_of}
 use Rattle.access_units.specs.Standing as acceptor
-use Rattle.file_pictures.specs.Files.{AreAllWhole, AreDecoded, Decoded, IsAcceptedPicture, IsReadTo, IsReadWhole, IsWholeBehind, has_own_number, pictures_in}
+use Rattle.accepted_pictures.specs.Files.{AreAllWhole, Decoded, IsReadTo, IsReadWhole, IsWholeBehind, has_own_number, pictures_in}
+use Rattle.accepted_pictures.specs.Streams.{IsNextOne, MayFeed, Stream, past_of, showing, streamed}
 use Rattle.file_pictures.specs.declared.stream_decoder.DecodedPicture.{DecodedPicture}
 use Rattle.file_pictures.specs.declared.stream_decoder.Step.{Step}
 use Rattle.file_pictures.specs.declared.stream_decoder.Step.TheVariants as step
 use Rattle.file_pictures.specs.declared.stream_decoder.StreamDecoder.{StreamDecoder}
-
--- the bytes fed, whether the end was fed, and the pictures given, of which the newest is the first
-pub record Stream : Type 0 where
-  pub text : List ℕ
-  pub ended : Bool
-  pub decoded : List Decoded
-
-abbrev pub no_stream : Stream
-no_stream = record { text = []; ended = false; decoded = [] }
-
-abbrev pub streamed : Stream → List ℕ → Stream
-streamed stream [] = record stream { ended = true }
-streamed stream (byte ∷ bytes) = record stream { text = stream.text ++ byte ∷ bytes }
-
-abbrev pub showing : Stream → Decoded → Stream
-showing stream one = record stream { decoded = one ∷ stream.decoded }
-
--- Bytes may be fed: the end wasn't, and with them there are 2^30 at most.
-pub record MayFeed (stream : Stream) (bytes : List ℕ) : Type 0 where
-  pub not_ended : stream.ended ≡ false
-  pub room : length (stream.text ++ bytes) ≤ 1073741824
 
 -- The samples of the newest picture with this own number.
 abbrev pub newest_of : List Decoded → ℕ → Option samples.Picture
@@ -63,10 +42,6 @@ IsKept (Some buffer) decoded sequence = Keeps buffer decoded sequence
 -- the pictures of the newest one's coded video sequence
 abbrev pub newest_sequence : List Decoded → List Picture
 newest_sequence decoded = sequence_of (pictures_in decoded)
-
--- the acceptor's past
-abbrev pub past_of : Stream → Past
-past_of stream = record { text = stream.text; ended = stream.ended; given = pictures_in stream.decoded; outcome = Some true }
 
 -- The acceptor stands for what was fed and given, and the buffer keeps what later pictures may refer to.
 pub record GoesOn (decoder : StreamDecoder) (stream : Stream) : Type 0 where
@@ -95,14 +70,6 @@ pub record Shows (shown : DecodedPicture) (one : Decoded) : Type 0 where
   pub period : shown.period ≡ one.picture.begun.period
   pub depth : shown.depth ≡ depth_of one.picture.sps
   pub samples : arc_value shown.samples ≡ one.samples
-
--- It is the picture of the access unit whose turn is next.
-pub record IsNextOne (stream : Stream) (one : Decoded) : Type 0 where
-  pub front : List AccessUnit
-  pub au : AccessUnit
-  pub settled : IsSettled stream.text stream.ended front au
-  pub before : AreDecoded front stream.decoded
-  pub decoded : IsAcceptedPicture stream.decoded au one
 
 -- What is answered, and what the decoder stands for behind it.
 abbrev pub IsStep : Stream → Step → StreamDecoder → Type 0

@@ -59,9 +59,10 @@ impl StreamDecoder {
     ghost use Rattle.access_units.specs.Pictures as given;
     ghost use Rattle.cb_types.specs.SizeMbs.{IsWithinLimits};
     ghost use Rattle.picture_buffer.specs.Buffers.{size_of};
-    ghost use Rattle.file_pictures.specs.Files.{Decoded};
+    ghost use Rattle.accepted_pictures.specs.Files.{Decoded};
     ghost use Rattle.file_pictures.specs.Offers.{AreKeptBehind, AreSamples, IsOffered, Offer};
-    ghost use Rattle.file_pictures.specs.Streams.{HasSmallDepth, HaveSize, IsKept, IsStep, Keeps, MayFeed, StandsFor, StaysIfLast, Stream, no_stream, streamed};
+    ghost use Rattle.accepted_pictures.specs.Streams.{MayFeed, Stream, no_stream, streamed};
+    ghost use Rattle.file_pictures.specs.Streams.{HasSmallDepth, HaveSize, IsKept, IsStep, Keeps, StandsFor, StaysIfLast};
 
     /// Nothing was fed.
     pub fn new(alloc: Global) -> StreamDecoder

@@ -10,7 +10,7 @@ use Rattle.driver_model.specs.ShownPictures.{ShownPicture}
 use Rattle.driver_model.specs.States.{State, empty_state}
 use Rattle.driver_model.specs.declared.items.Item.{Item}
 use Rattle.driver_model.specs.declared.items.Item.TheVariants.{Called}
-use Rattle.file_pictures.specs.Files.{Decoded}
+use Rattle.accepted_pictures.specs.Files.{Decoded}
 use Rattle.stream_calls.specs.Counted.{has_done, is_display, is_render}
 use Rattle.stream_calls.specs.Displays.{AreDisplayed, TakesShown}
 use Rattle.stream_calls.specs.Laws.{FeedingKeepsStreamCalls, NoCallsAreAStreams, feeding}

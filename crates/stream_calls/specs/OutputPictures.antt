@@ -1,7 +1,7 @@
 -- The samples of a file's pictures in the order in which they come out.
 use Rattle.std.specs.Prelude.{ℕ, ◌==◌, List, [], ◌∷◌, length, map, flat_map, if◌then◌else◌}
 use Rattle.access_units.specs.Pictures.{ordered}
-use Rattle.file_pictures.specs.Files.{Decoded, pictures_in}
+use Rattle.accepted_pictures.specs.Files.{Decoded, pictures_in}
 use Rattle.output_order.specs.OutputOrder as order
 use Rattle.vd_plane.specs.declared.picture.Picture.{Picture}
 

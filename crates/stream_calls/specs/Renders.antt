@@ -11,7 +11,7 @@ use Rattle.driver_model.specs.declared.calls.Call.TheVariants as call
 use Rattle.driver_model.specs.declared.items.Entry.{Entry}
 use Rattle.driver_model.specs.declared.items.Item.{Item}
 use Rattle.driver_model.specs.declared.items.Item.TheVariants.{Called, Ended}
-use Rattle.file_pictures.specs.Files.{Decoded}
+use Rattle.accepted_pictures.specs.Files.{Decoded}
 use Rattle.stream_calls.specs.Counted.{has_done, is_render}
 
 -- The entry's bytes are the picture's slice units, each behind 00 00 01, and in this state its target has the picture's samples.

@@ -6,7 +6,7 @@ use Rattle.vd_plane.specs.declared.picture.Picture.{Picture}
 use Rattle.driver_model.specs.Passes.{caller_of}
 use Rattle.driver_model.specs.ShownPictures.{ShownPicture, shown_pictures}
 use Rattle.driver_model.specs.declared.items.Item.{Item}
-use Rattle.file_pictures.specs.Files.{Decoded, Fault, HasPictures}
+use Rattle.accepted_pictures.specs.Files.{Decoded, Fault, HasPictures}
 use Rattle.stream_calls.specs.Displays.{DisplaysTheShown}
 use Rattle.stream_calls.specs.OneDevice.{StaysOnOneDevice}
 use Rattle.stream_calls.specs.OutputPictures.{in_output_order}

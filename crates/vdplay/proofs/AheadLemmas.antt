@@ -13,7 +13,7 @@ use Rattle.access_units.specs.AccessUnits.{AccessUnit}
 use Rattle.access_units.specs.Depth.{depth_of}
 use Rattle.access_units.specs.Pictures.{ArePictures, IsPicture, IsSameSet, Picture, ordered, ordered_behind, periods}
 use Rattle.access_units.specs.Stands.{HasDepth}
-use Rattle.file_pictures.specs.Files.{Decoded, pictures_in}
+use Rattle.accepted_pictures.specs.Files.{Decoded, pictures_in}
 use Rattle.vdplay.specs.Output.{numbers_in_order, picture_line, picture_lines, pictures_text, planes_at, planes_in_order}
 use Rattle.vdplay.specs.Reports.{AppendsAhead, Holds, IsCalm, IsNextOf, MayFollow, Stands, planes_out, with_out}
 use Rattle.vdplay.specs.Run.{AppendsFront, Begin}

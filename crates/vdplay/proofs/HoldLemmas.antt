@@ -22,7 +22,7 @@ use Rattle.output_order.proofs.WaitingLemmas.{waiting_is}
 use Rattle.access_units.specs.Depth.{depth_of}
 use Rattle.access_units.specs.Pictures.{IsSameSet, Picture, ordered, ordered_behind, periods}
 use Rattle.access_units.specs.Stands.{HasDepth}
-use Rattle.file_pictures.specs.Files.{Decoded, pictures_in}
+use Rattle.accepted_pictures.specs.Files.{Decoded, pictures_in}
 use Rattle.file_pictures.specs.Streams.{Shows}
 use Rattle.file_pictures.specs.declared.stream_decoder.DecodedPicture.{DecodedPicture}
 use Rattle.vdplay.specs.Output.{numbers_in_order, planes_at, planes_in_order, planes_of}

@@ -12,7 +12,7 @@ use Rattle.param_sets.specs.declared.sps.Sps.{Sps}
 use Rattle.access_units.specs.AccessUnits.{AccessUnit}
 use Rattle.access_units.specs.Depth.{depth_of}
 use Rattle.access_units.specs.Pictures.{IsPicture, IsSameSet, Picture, ordered, ordered_behind, periods}
-use Rattle.file_pictures.specs.Files.{Decoded, pictures_in}
+use Rattle.accepted_pictures.specs.Files.{Decoded, pictures_in}
 use Rattle.vdplay.specs.Reports.{CountsPeriods, IsNextOf}
 use Rattle.vdplay.specs.declared.line_writer.LineWriter.{LineWriter}
 

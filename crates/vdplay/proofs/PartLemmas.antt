@@ -5,8 +5,8 @@ use Rattle.std.specs.Io.KnownBytes.{Appends}
 use Rattle.access_units.specs.AccessUnits.{AccessUnit}
 use Rattle.access_units.specs.Acceptors.{IsSettled}
 use Rattle.access_units.specs.Pictures.{ArePictures}
-use Rattle.file_pictures.specs.Files.{AreDecoded, Decoded, Fault, HasPictures, IsTooLong, pictures_in}
-use Rattle.file_pictures.proofs.OneReading.{are_decoded, first_pictures, one_reading}
+use Rattle.accepted_pictures.specs.Files.{AreDecoded, Decoded, Fault, HasPictures, IsTooLong, pictures_in}
+use Rattle.accepted_pictures.proofs.OneReading.{are_decoded, first_pictures, one_reading}
 use Rattle.vdplay.specs.Output.{end_text, pictures_text, text_of}
 use Rattle.vdplay.specs.Reports.{AppendsAhead, MayFollow}
 use Rattle.vdplay.specs.Run.{AppendsFront, AppendsPart, AppendsText, Begin, place_of}

@@ -5,8 +5,9 @@ use Rattle.std.proofs.Math.Seq.{take-append_seam}
 use Rattle.std.proofs.lemmas.Bool.{eqb-true}
 use Rattle.std.proofs.lemmas.Bool.Decides.{nat_tests}
 use Rattle.std.proofs.lemmas.List.{length-take-le, take_all}
-use Rattle.file_pictures.specs.Files.{Decoded}
-use Rattle.file_pictures.specs.Streams.{IsStep, MayFeed, StandsFor, Stream, no_stream, showing, streamed}
+use Rattle.accepted_pictures.specs.Files.{Decoded}
+use Rattle.accepted_pictures.specs.Streams.{MayFeed, Stream, no_stream, showing, streamed}
+use Rattle.file_pictures.specs.Streams.{IsStep, StandsFor}
 use Rattle.file_pictures.specs.declared.stream_decoder.Step.{Step}
 use Rattle.file_pictures.specs.declared.stream_decoder.Step.TheVariants as step
 use Rattle.file_pictures.specs.declared.stream_decoder.StreamDecoder.{StreamDecoder}

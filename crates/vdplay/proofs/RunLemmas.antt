@@ -4,8 +4,9 @@ use Rattle.std.specs.Prelude.{IfErr, IfSome, IsErrOf, MatchBool, OnOk}
 use Rattle.std.specs.Io.KnownBytes.{Appends}
 use Rattle.access_units.specs.AccessUnits.{AccessUnit}
 use Rattle.access_units.specs.Pictures.{ArePictures}
-use Rattle.file_pictures.specs.Files.{AreAllWhole, AreDecoded, Decoded, Fault, HasPictures, IsAcceptedPicture, IsReadTo, IsReadWhole, IsTooLong}
-use Rattle.file_pictures.specs.Streams.{HasSmallDepth, IsNextOne, Shows, Stream, showing}
+use Rattle.accepted_pictures.specs.Files.{AreAllWhole, AreDecoded, Decoded, Fault, HasPictures, IsAcceptedPicture, IsReadTo, IsReadWhole, IsTooLong}
+use Rattle.accepted_pictures.specs.Streams.{IsNextOne, Stream, showing}
+use Rattle.file_pictures.specs.Streams.{HasSmallDepth, Shows}
 use Rattle.file_pictures.specs.declared.stream_decoder.DecodedPicture.{DecodedPicture}
 use Rattle.file_pictures.specs.declared.stream_decoder.Step.{Step}
 use Rattle.file_pictures.specs.declared.stream_decoder.Step.TheVariants as step

@@ -3,7 +3,7 @@ use Rattle.std.proofs.Common.{◌≡◌, ℕ, Bool, true, false, List, ◌++◌,
 use Rattle.std.proofs.lemmas.List.{take-append-drop}
 use Rattle.access_units.specs.AccessUnits.{AccessUnit}
 use Rattle.access_units.specs.Acceptors.{IsSettled}
-use Rattle.file_pictures.specs.Streams.{Stream}
+use Rattle.accepted_pictures.specs.Streams.{Stream}
 use Rattle.access_units.proofs.Onward.{settled_on}
 use Rattle.vdplay.specs.Reading.{IsFrontOf}
 

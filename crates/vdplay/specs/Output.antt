@@ -2,7 +2,7 @@
 use Rattle.std.specs.Prelude.{ℕ, ◌-◌, ◌==◌, List, [], ◌∷◌, ◌++◌, length, map, flat_map, if◌then◌else◌, ℤ, Option, Some, None, codes}
 use Rattle.std.specs.Fmt.{decimal, signed_decimal}
 use Rattle.access_units.specs.Pictures.{ordered, periods}
-use Rattle.file_pictures.specs.Files.{Decoded, pictures_in}
+use Rattle.accepted_pictures.specs.Files.{Decoded, pictures_in}
 use Rattle.output_order.specs.OutputOrder as order
 use Rattle.vd_plane.specs.declared.picture.Picture as samples
 use Rattle.vdplay.specs.declared.command_line.Command.{Command}

@@ -1,7 +1,8 @@
 -- What a reader of a file stands for, and what it answers.
 use Rattle.std.specs.Prelude.{◌≡◌, ℕ, ◌<◌, ◌≤◌, ◌⊎◌, List, length, vec_len, drop, take, true, Option, IfSome}
-use Rattle.file_pictures.specs.Files.{Decoded, IsReadTo, IsReadWhole}
-use Rattle.file_pictures.specs.Streams.{IsNextOne, Shows, StandsFor, Stream, showing}
+use Rattle.accepted_pictures.specs.Files.{Decoded, IsReadTo, IsReadWhole}
+use Rattle.accepted_pictures.specs.Streams.{IsNextOne, Stream, showing}
+use Rattle.file_pictures.specs.Streams.{Shows, StandsFor}
 use Rattle.file_pictures.specs.declared.stream_decoder.Step.{Step}
 use Rattle.file_pictures.specs.declared.stream_decoder.Step.TheVariants as step
 use Rattle.vdplay.specs.declared.file_reader.FileReader.{FileReader}

@@ -7,7 +7,7 @@ use Rattle.access_units.specs.AccessUnits.{AccessUnit}
 use Rattle.access_units.specs.Depth.{depth_of}
 use Rattle.access_units.specs.Pictures.{IsPicture, ordered, ordered_behind, periods}
 use Rattle.access_units.specs.Stands.{HasDepth}
-use Rattle.file_pictures.specs.Files.{Decoded, pictures_in}
+use Rattle.accepted_pictures.specs.Files.{Decoded, pictures_in}
 use Rattle.output_order.specs.OutputOrder as order
 use Rattle.output_order.specs.Waiting as waiting
 use Rattle.vdplay.specs.Output.{picture_lines, pictures_text, planes_at, planes_of}

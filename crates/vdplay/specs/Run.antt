@@ -2,7 +2,7 @@
 use Rattle.std.specs.Prelude.{◌≡◌, ℕ, ◌⊎◌, List, ◌++◌, take, Bool, true, false, if◌then◌else◌, Option, Some, None, Result, Ok, Err, IfSome}
 use Rattle.std.specs.Option.{option_map}
 use Rattle.std.specs.Io.KnownBytes.{Appends}
-use Rattle.file_pictures.specs.Files.{Decoded, Fault, HasPictures}
+use Rattle.accepted_pictures.specs.Files.{Decoded, Fault, HasPictures}
 use Rattle.vd_outside.specs.Count.{HasCause}
 use Rattle.vd_outside.specs.Shelf.{Files, told}
 use Rattle.vdplay.specs.CommandLine.{IsLine}

@@ -3,7 +3,8 @@ ghost use Rattle.std.specs.Prelude.{◌≡◌, ◌⊎◌, ◌+◌, ◌<◌, ◌�
 ghost use Rattle.std.specs.declared.option.Option.{Option};
 ghost use Rattle.vd_outside.specs.Count.{HasCause, raised};
 ghost use Rattle.vd_outside.specs.Shelf.{told};
-ghost use Rattle.file_pictures.specs.Streams.{HasSmallDepth, Stream, no_stream};
+ghost use Rattle.accepted_pictures.specs.Streams.{Stream, no_stream};
+ghost use Rattle.file_pictures.specs.Streams.{HasSmallDepth};
 ghost use Rattle.vdplay.specs.Outside.{AreSame, IsReadAlone, StopsReading, shelf_state};
 ghost use Rattle.vdplay.specs.Reading.{IsAnswer, IsPiece, Reads, ReadsOn};
 

@@ -3,7 +3,7 @@ ghost use Rattle.std.specs.Prelude.{◌≡◌, ◌⊎◌, ◌<◌, ◌≤◌, �
 ghost use Rattle.std.specs.declared.option.Option.{Option};
 ghost use Rattle.vd_outside.specs.Count.{HasCause, raised};
 ghost use Rattle.vd_outside.specs.Shelf.{IsMissing, told};
-ghost use Rattle.file_pictures.specs.Streams.{no_stream};
+ghost use Rattle.accepted_pictures.specs.Streams.{no_stream};
 ghost use Rattle.vdplay.specs.Outside.{AreSame, IsReadAlone, Leaves, shelf_state, sink_state};
 ghost use Rattle.vdplay.specs.Reading.{Reads};
 ghost use Rattle.vdplay.specs.Reports.{HasWritten, command_of};

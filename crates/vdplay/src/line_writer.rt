@@ -3,7 +3,7 @@ ghost use Rattle.std.specs.Prelude.{◌≡◌, ◌⊎◌, ◌-◌, ◌∷◌, �
 ghost use Rattle.std.specs.declared.option.Option.{Option};
 ghost use Rattle.std.specs.Io.KnownBytes.{Appends};
 ghost use Rattle.vd_outside.specs.Count.{HasCause};
-ghost use Rattle.file_pictures.specs.Files.{Decoded, pictures_in};
+ghost use Rattle.accepted_pictures.specs.Files.{Decoded, pictures_in};
 ghost use Rattle.file_pictures.specs.Streams.{Shows};
 ghost use Rattle.std.specs.String.{string_bytes};
 ghost use Rattle.access_units.specs.Pictures.{periods};

@@ -4,7 +4,7 @@ ghost use Rattle.std.specs.declared.option.Option.{Option};
 ghost use Rattle.std.specs.Arc.{arc_value};
 ghost use Rattle.std.specs.Io.KnownBytes.{Appends};
 ghost use Rattle.vd_outside.specs.Count.{HasCause};
-ghost use Rattle.file_pictures.specs.Files.{Decoded};
+ghost use Rattle.accepted_pictures.specs.Files.{Decoded};
 ghost use Rattle.file_pictures.specs.Streams.{Shows};
 ghost use Rattle.output_order.specs.OutputOrder.{History, has_settled, nothing_yet, popping};
 ghost use Rattle.vdplay.specs.Output.{planes_at, planes_in_order, planes_of};

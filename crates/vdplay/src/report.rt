@@ -3,7 +3,7 @@ ghost use Rattle.std.specs.Prelude.{◌≡◌, ◌⊎◌, ◌∷◌, ℕ, List, 
 ghost use Rattle.std.specs.declared.option.Option.{Option};
 ghost use Rattle.std.specs.Io.KnownBytes.{Appends};
 ghost use Rattle.vd_outside.specs.Count.{HasCause};
-ghost use Rattle.file_pictures.specs.Files.{Decoded};
+ghost use Rattle.accepted_pictures.specs.Files.{Decoded};
 ghost use Rattle.file_pictures.specs.Streams.{Shows};
 ghost use Rattle.vdplay.specs.Output.{text_of};
 ghost use Rattle.vdplay.specs.Outside.{StopsWriting, sink_state};

@@ -1,5 +1,5 @@
 use Rattle.std.proofs.Common.{◌∙◌, refl, sym, ap, subst, arith}
-use Rattle.file_pictures.specs.Streams.{no_stream}
+use Rattle.accepted_pictures.specs.Streams.{no_stream}
 use Rattle.vd_outside.specs.Shelf.{told}
 use Rattle.std.proofs.Common.{Err, Option, List, ℕ, ◌∷◌}
 use Rattle.std.specs.Prelude.{IfSome}

@@ -7,7 +7,7 @@ use Rattle.vd_plane.specs.declared.picture.Picture as samples
 use Rattle.picture_buffer.specs.Buffers as buffers
 use Rattle.picture_buffer.specs.declared.buffer.PictureBuffer.{PictureBuffer}
 use Rattle.access_units.specs.Pictures.{Picture}
-use Rattle.file_pictures.specs.Files.{Decoded}
+use Rattle.accepted_pictures.specs.Files.{Decoded}
 use Rattle.file_pictures.specs.Streams.{HaveSize, IsKept, Keeps}
 use Rattle.file_pictures.proofs.Kept.{keeps_fresh}
 use Rattle.file_pictures.proofs.stream_decoder.StreamDecoder.buffer_for.Goals as goal

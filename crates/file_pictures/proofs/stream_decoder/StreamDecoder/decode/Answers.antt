@@ -3,7 +3,7 @@ use Rattle.access_units.specs.Acceptors as acceptors
 use Rattle.access_units.specs.Standing as acceptor
 use Rattle.file_pictures.proofs.Steps.{gives, not_given}
 use Rattle.file_pictures.specs.Offers.{AreKeptBehind, AreSamples}
-use Rattle.file_pictures.specs.Streams.{past_of}
+use Rattle.accepted_pictures.specs.Streams.{past_of}
 use Rattle.access_units.specs.declared.acceptor.Acceptor.{Acceptor}
 use Rattle.vd_plane.specs.declared.picture.Picture as samples
 use Rattle.std.specs.Arc.{arc_value}

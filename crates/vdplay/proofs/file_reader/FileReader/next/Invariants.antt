@@ -1,6 +1,6 @@
 use Rattle.std.proofs.Common.{◌≡◌, ◌+◌, ◌-◌, cond}
 use Rattle.vd_outside.specs.Shelf.{told}
-use Rattle.file_pictures.specs.Streams.{Stream}
+use Rattle.accepted_pictures.specs.Streams.{Stream}
 use Rattle.vdplay.specs.Outside.{AreSame, IsReadAlone, shelf_state}
 use Rattle.vdplay.specs.Reading.{Reads, ReadsOn}
 use Rattle.vdplay.proofs.file_reader.FileReader.next.Given as goal

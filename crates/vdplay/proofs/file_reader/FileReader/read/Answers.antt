@@ -1,5 +1,6 @@
 use Rattle.std.proofs.Common.{◌≡◌, ◌∙◌, ◌≤◌, ℕ, List, length, take, vec_len, refl, sym, subst, arith}
-use Rattle.file_pictures.specs.Streams.{MayFeed, StandsFor, streamed}
+use Rattle.accepted_pictures.specs.Streams.{MayFeed, streamed}
+use Rattle.file_pictures.specs.Streams.{StandsFor}
 use Rattle.vdplay.proofs.ReadingLemmas.{may_feed, reads_on, whole_items}
 use Rattle.vdplay.proofs.file_reader.FileReader.read.Goals as goal
 

@@ -1,7 +1,7 @@
 use mir.Val.{bool_byte}
 use Rattle.std.proofs.Common.{refl, ◌≡◌, ◌+◌, ◌-◌, ◌≤◌, ℕ, Bool, true, false, cond, ◌∷◌, ap, sym, ◌∙◌, subst, arith}
 use Rattle.access_units.specs.Pictures.{periods}
-use Rattle.file_pictures.specs.Files.{pictures_in}
+use Rattle.accepted_pictures.specs.Files.{pictures_in}
 use Rattle.vdplay.proofs.NextLemmas.{few_periods, joins_decoded, length_pictures, periods_next, some_periods}
 use Rattle.vdplay.proofs.line_writer.LineWriter.period_of.Goals as goal
 

@@ -2,7 +2,7 @@ use Rattle.std.proofs.Common.{◌≡◌, ℕ, List, vec_len}
 use Rattle.std.specs.declared.option.Option.{Option}
 use Rattle.std.specs.Io.KnownBytes.{Appends}
 use Rattle.output_order.specs.OutputOrder.{History}
-use Rattle.file_pictures.specs.Files.{Decoded}
+use Rattle.accepted_pictures.specs.Files.{Decoded}
 use Rattle.vdplay.specs.Reports.{Holds, planes_out, with_out}
 use Rattle.vdplay.proofs.plane_writer.PlaneWriter.write_settled.Given as goal
 

@@ -9,9 +9,9 @@ use Rattle.nal_units.proofs.Advancing.{text_has_units}
 use Rattle.access_units.specs.AccessUnits.{AccessUnit, access_units, added_to, are_some, begins_another, begins_by, broken_off, grouped, has_slice, unit_alone, with_unit}
 use Rattle.access_units.specs.Contents.{AreTold, Told, places_of, sets_behind}
 use Rattle.access_units.specs.Pictures.{ArePictures}
-use Rattle.file_pictures.specs.Files.{AreAllWhole, AreDecoded, Decoded, Fault, HasPictures, IsAcceptedPicture, IsRead, IsTooLong, fault_of}
+use Rattle.accepted_pictures.specs.Files.{AreAllWhole, AreDecoded, Decoded, Fault, HasPictures, IsAcceptedPicture, IsRead, IsTooLong, fault_of}
 use Rattle.access_units.proofs.OneGrouping.{all_units, broken_place, reverse_twice}
-use Rattle.file_pictures.proofs.SomeContent.{NotNone, and_then, either, given, tells_some}
+use Rattle.accepted_pictures.proofs.SomeContent.{NotNone, and_then, either, given, tells_some}
 
 -- ---- what units tell
 

@@ -17,7 +17,7 @@ use Rattle.access_units.specs.Pictures.{ArePictures, IsPicture, Picture, payload
 use Rattle.access_units.specs.declared.content.Content.{Content}
 use Rattle.access_units.specs.declared.content.Content.TheVariants.{Other, PictureSet, Refused, SequenceSet, Slice, TooLarge}
 use Rattle.access_units.specs.declared.content.Named.{Named}
-use Rattle.file_pictures.specs.Files.{AreAllWhole, AreDecoded, Decoded, IsAcceptedPicture, IsWholeBehind, pictures_in, references_of}
+use Rattle.accepted_pictures.specs.Files.{AreAllWhole, AreDecoded, Decoded, IsAcceptedPicture, IsWholeBehind, pictures_in, references_of}
 use Rattle.access_units.proofs.OneAnswer.{picture_one}
 use Rattle.access_units.proofs.OneContent.{IsRead, IsReadContent, told_read}
 use Rattle.access_units.proofs.OneGrouping.{Settle, broken_place}

@@ -1,7 +1,7 @@
 -- What the front of a file settled stays so, whatever follows.
 use Rattle.std.proofs.Common.{ℕ, Bool, false, List, ◌++◌}
 use Rattle.access_units.proofs.Onward.{settled_on}
-use Rattle.file_pictures.specs.Files.{Decoded, Fault, IsReadTo}
+use Rattle.accepted_pictures.specs.Files.{Decoded, Fault, IsReadTo}
 
 pub refused_on : (text more : List ℕ) (is_ended : Bool) (decoded : List Decoded) (fault : Fault) → IsReadTo text false decoded fault → IsReadTo (text ++ more) is_ended decoded fault
 refused_on text more is_ended decoded fault read = record {

@@ -5,8 +5,8 @@ use Rattle.std.proofs.lemmas.List.{append-nil, length-append}
 use Rattle.access_units.specs.AccessUnits.{AccessUnit}
 use Rattle.access_units.specs.Acceptors.{AreAll, IsSettled}
 use Rattle.access_units.specs.Pictures.{ArePictures}
-use Rattle.file_pictures.specs.Files.{AreAllWhole, AreDecoded, Decoded, Fault, HasPictures, IsAcceptedPicture, IsFirstRefused, IsRead, IsReadTo, IsReadWhole, IsTooLong, fault_of}
-use Rattle.file_pictures.proofs.OneDecoded.{AreReadUnits, decoded_one, head_of, last_read, settled_read, splits}
+use Rattle.accepted_pictures.specs.Files.{AreAllWhole, AreDecoded, Decoded, Fault, HasPictures, IsAcceptedPicture, IsFirstRefused, IsRead, IsReadTo, IsReadWhole, IsTooLong, fault_of}
+use Rattle.accepted_pictures.proofs.OneDecoded.{AreReadUnits, decoded_one, head_of, last_read, settled_read, splits}
 use Rattle.access_units.proofs.OneGrouping.{all_settled, settled}
 use Rattle.access_units.proofs.OneList.{cases_of, share, whole_within}
 use Rattle.access_units.proofs.WholeSlices.{some_slices}

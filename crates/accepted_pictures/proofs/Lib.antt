@@ -1,0 +1,7 @@
+pub mod Onward
+pub mod OneDecoded
+pub mod OneReading
+pub mod OneNext
+pub mod SettledFirst
+pub mod SomeContent
+pub mod SomeReading

@@ -1,0 +1,4 @@
+pub mod Decisions
+pub mod ContentsExist
+pub mod PicturesDecided
+pub mod ReadingsExist

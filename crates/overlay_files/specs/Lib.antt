@@ -1,0 +1,3 @@
+pub mod Blended
+pub mod Pixels
+pub mod Texts

@@ -1,5 +1,5 @@
 -- Bitmaps as the bytes of a file.
-use Rattle.std.specs.Prelude.{◌≡◌, ℕ, List, ◌∷◌, ◌++◌, codes, decimal}
+use Rattle.std.specs.Prelude.{◌≡◌, ℕ, List, [], ◌∷◌, ◌++◌, codes, decimal}
 use Rattle.overlay_files.specs.Pixels.{IsBitmap, PixelArray}
 
 -- the sides in decimal without leading zeros, in a line of their own

@@ -7,7 +7,7 @@ use borrow.Rule.Slice.PartMut.{put_mid}
 use Rattle.mixer.specs.Mixed.{pixel_at}
 use Rattle.mixer.proofs.Pixels.{pixel_before, pixel_inside}
 use Rattle.overlay_files.specs.Blended.{IsBeside, IsBlended, over}
-use Rattle.overlay_files.specs.Pixels.{PixelArray, pixel, pixels_of}
+use Rattle.overlay_files.specs.Pixels.{pixels_of}
 
 after_part : (a k i : ℕ) (s t : List ℕ) → a + k ≤ i → length t ≡ k → a + k ≤ length s → get_or (put_mid a k s t) i 0 ≡ get_or s i 0
 after_part a k i s t behind long within = grind (arith, places)
@@ -175,3 +175,16 @@ all_blended w h bw bh rows x y bb old now few all b = record {
 -- nothing of the bitmap falls inside
 pub none_blended : (w h bw bh x y : ℕ) (bb old : List ℕ) → w ≤ x → IsBlended (pixels_of w h old) (pixels_of bw bh bb) x y (pixels_of w h old)
 none_blended w h bw bh x y bb old right = record { under = λ i j lt lower column. absurd (omega (arith, column, right)); beside = λ px py lt inside aside. refl }
+
+-- a row of the pixels is within theirs
+pub part_fits : (w h y row x columns count : ℕ) → count ≡ 4 * (w * h) → x + columns ≤ w → y + row < h → 4 * ((y + row) * w + x) + 4 * columns ≤ count
+part_fits w h y row x columns count is within lt =
+    let up : (y + row + 1) * w ≤ h * w = mul-le (y + row + 1) w h w (omega (arith, lt)) (omega arith) in
+    omega (arith, is, within, up)
+
+-- rows that are laid over are inside
+pub row_inside : (h y row rows : ℕ) → row < rows → (y < h → y + rows ≤ h) → (h ≤ y → rows ≡ 0) → y + row < h
+row_inside h y row rows lt within empty = elim (cases_lt y h) [
+  | inl less ↦ omega (arith, lt, within less)
+  | inr more ↦ absurd (omega (arith, lt, empty more))
+]

@@ -1,3 +1,4 @@
 pub mod Blended
 pub mod Pixels
+pub mod Reading
 pub mod Texts

@@ -3,6 +3,10 @@
 
 mod bitmap;
 mod blending;
+mod fields;
+mod numbers;
+mod reading;
 
 pub use bitmap::Bitmap;
 pub use blending::blend;
+pub use reading::{BitmapFault, read_bitmap};

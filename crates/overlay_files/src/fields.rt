@@ -1,5 +1,6 @@
 // Numbers in a text, each ended by a byte that is no digit.
 ghost use Rattle.std.specs.Prelude.{◌≡◌, ◌≢◌, ℕ, ◌<◌, ◌≤◌, ◌^◌, ◌∷◌, ◌++◌, List, length, drop, decimal, slice_index, MatchOption};
+ghost use Rattle.overlay_files.specs.Ended.{IsEnded};
 
 use super::numbers::read_number;
 
@@ -13,13 +14,15 @@ pub(crate) struct Field {
 // The number of 0 to 2^63 - 1 that the text begins with, where this byte ends it.
 pub(crate) fn read_field(text: &[u8], ending: u8) -> Option<Field>
     requires { ending < 48 }
-    ensures { MatchOption result ((n : ℕ) (rest : List ℕ) → n < 2 ^ 63 → text.now ≢ decimal n ++ ending ∷ rest) (λ f. (f.number < 2 ^ 63) × (f.end ≤ length text.now) × (text.now ≡ decimal f.number ++ ending ∷ drop f.end text.now)) }
+    ensures { MatchOption result ((n : ℕ) (rest : List ℕ) → n < 2 ^ 63 → text.now ≢ decimal n ++ ending ∷ rest) (λ f. IsEnded text.now ending f.number f.end) }
 {
     let place = find(text, ending);
     if place == text.len() {
         return None;
     }
-    let number = read_number(&text[..place])?;
+    let Some(number) = read_number(&text[..place]) else {
+        return None;
+    };
     Some(Field {
         number,
         end: place + 1,

@@ -1,11 +1,12 @@
 // Bitmaps from their files.
-ghost use Rattle.std.specs.Prelude.{◌≡◌, ◌≢◌, ℕ, ◌≤◌, ◌++◌, List, length, drop, true, IfErr, IfOk, MatchOption};
+ghost use Rattle.std.specs.Prelude.{◌≡◌, ◌≢◌, ℕ, ◌<◌, ◌∷◌, ◌++◌, List, decimal, true, IfErr, IfOk, MatchOption};
+ghost use Rattle.overlay_files.specs.Ended.{IsEnded, IsHeaded};
 ghost use Rattle.overlay_files.specs.Pixels.{IsSide};
 ghost use Rattle.overlay_files.specs.Reading.{Blames};
 ghost use Rattle.overlay_files.specs.Texts.{IsBitmapFile, header_text};
 
 use super::bitmap::Bitmap;
-use super::fields::read_field;
+use super::fields::{Field, read_field};
 use std::alloc::Global;
 
 /// The longest side of a bitmap.
@@ -50,18 +51,34 @@ pub fn read_bitmap(alloc: Global, bytes: &[u8]) -> Result<Bitmap, BitmapFault>
 
 // The first line of a bitmap's file.
 fn read_header(text: &[u8]) -> Option<Header>
-    ensures { MatchOption result ((w h : ℕ) (rest : List ℕ) → IsSide w → IsSide h → text.now ≢ header_text w h ++ rest) (λ r. IsSide r.width × IsSide r.height × (r.end ≤ length text.now) × (text.now ≡ header_text r.width r.height ++ drop r.end text.now)) }
+    ensures { MatchOption result ((w h : ℕ) (rest : List ℕ) → IsSide w → IsSide h → text.now ≢ header_text w h ++ rest) (λ r. IsHeaded text.now r.width r.height r.end) }
 {
-    let operands = text.strip_prefix(b"RGBA ")?;
-    let width = read_field(operands, b' ')?;
-    let behind = &operands[width.end..];
-    let height = read_field(behind, b'\n')?;
-    if is_side(width.number) && is_side(height.number) {
-        Some(Header {
-            width: width.number as u32,
-            height: height.number as u32,
-            end: 5 + width.end + height.end,
-        })
+    let Some(operands) = text.strip_prefix(b"RGBA ") else {
+        return None;
+    };
+    let Some(width) = read_side(operands, b' ') else {
+        return None;
+    };
+    let Some(height) = read_side(&operands[width.end..], b'\n') else {
+        return None;
+    };
+    Some(Header {
+        width: width.number as u32,
+        height: height.number as u32,
+        end: 5 + width.end + height.end,
+    })
+}
+
+// The side that the text begins with, where this byte ends it.
+fn read_side(text: &[u8], ending: u8) -> Option<Field>
+    requires { ending < 48 }
+    ensures { MatchOption result ((n : ℕ) (rest : List ℕ) → IsSide n → text.now ≢ decimal n ++ ending ∷ rest) (λ f. IsSide f.number × IsEnded text.now ending f.number f.end) }
+{
+    let Some(side) = read_field(text, ending) else {
+        return None;
+    };
+    if is_side(side.number) {
+        Some(side)
     } else {
         None
     }

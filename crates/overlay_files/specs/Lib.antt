@@ -1,0 +1,5 @@
+pub mod Blended
+pub mod Ended
+pub mod Pixels
+pub mod Reading
+pub mod Texts

@@ -29,14 +29,15 @@ pub struct Held {
 
 /// A line's case.
 #[derive(Clone, Copy)]
-pub enum Case {
+pub enum Case<'a> {
     Held(Held),
     Two { calls: u32 },
     Waits,
+    Refused(&'a str),
 }
 
 /// The case that a line asks for, if it does.
-pub fn case_of(text: &str) -> Option<Case> {
+pub fn case_of(text: &str) -> Option<Case<'_>> {
     if text == "wait" {
         return Some(Case::Waits);
     }
@@ -45,6 +46,7 @@ pub fn case_of(text: &str) -> Option<Case> {
         "two" => return Some(Case::Two {
             calls: rest.parse().ok()?,
         }),
+        "refused" => return Some(Case::Refused(rest)),
         "render" => Kind::Render,
         "mix" => Kind::Mix,
         _ => return None,

@@ -6,6 +6,7 @@
 //!                                         What is told: the deed's answers, the end's, and the target's bytes then
 //!     two CALLS                           two threads make so many calls each: which places these have
 //!     wait                                one thread waits until a surface is idle, the other ticks
+//!     refused WORD                        the answer of a call that is refused (refusals.rt)
 //!
 //! Deeds: `target`, `source`, `maker` and `device` destroy what is written, what is read, the decoder or the mixer, and
 //! the device; `preempt` takes the display away; `renew` destroys the target and makes another surface; `display`
@@ -20,6 +21,7 @@ mod gate;
 mod jobs;
 mod objects;
 mod picture;
+mod refusals;
 mod telling;
 mod waiting;
 
@@ -44,10 +46,11 @@ fn main(rt: HostRuntime) -> Result<(), Fault> {
 }
 
 // What came of a case.
-fn told<R: Threads + Wait + Sync>(rt: &R, alloc: Global, case: Case) -> Result<String, Fault> {
+fn told<R: Threads + Wait + Sync>(rt: &R, alloc: Global, case: Case<'_>) -> Result<String, Fault> {
     match case {
         Case::Held(held) => jobs::told(rt, alloc, held),
         Case::Two { calls } => callers::told(rt, alloc, calls),
         Case::Waits => waiting::told(rt, alloc),
+        Case::Refused(word) => refusals::told(rt, alloc, word),
     }
 }

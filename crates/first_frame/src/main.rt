@@ -18,11 +18,11 @@ use driver_model::FRAME;
 use fault::Fault;
 use player::Player;
 use std::sync::Wait;
-use std::{fs, thread};
+use std::thread;
 use vd_outside::OpenGate;
 
 fn main(rt: HostRuntime) -> Result<(), Fault> {
-    let bytes = fs::read(&rt, "moving.264")?;
+    let bytes = stream::read(&rt)?;
     let (driver, pass) = Driver::new(rt.alloc())?;
     let (player, pass) = Player::new(&rt, rt.alloc(), driver, pass)?;
     let (mixed, to_show) = unbounded(rt.alloc())?;

@@ -5,9 +5,17 @@ ghost use Rattle.first_frame.specs.Stream.{HasGiven, IsReady};
 use crate::fault::Fault;
 use access_units::{Acceptor, Next, Unsettled};
 use std::alloc::Global;
+use std::io::Read;
 
 // An acceptor takes no more bytes than these.
 const MOST_BYTES: usize = 1_073_741_824;
+
+/// All bytes of standard input.
+pub fn read<R: Input + AllocGlobal>(rt: &R) -> Result<Vec<u8>, Fault> {
+    let mut bytes = Vec::new(rt.alloc());
+    rt.reader().read_to_end(&mut bytes)?;
+    Ok(bytes)
+}
 
 /// An acceptor that has all bytes of a stream.
 pub fn opened(alloc: Global, bytes: &[u8]) -> Result<Acceptor, Fault>

@@ -19,8 +19,6 @@ mod output_surfaces;
 mod queues;
 mod renders;
 mod status;
-#[cfg(test)]
-mod tests;
 mod turns;
 mod video_surfaces;
 mod wishes;

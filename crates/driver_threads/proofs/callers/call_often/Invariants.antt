@@ -1,5 +1,5 @@
 use Rattle.driver.specs.Passes.{IsOf}
-use Rattle.driver.proofs.tests.call_often.Given as goal
+use Rattle.driver_threads.proofs.callers.call_often.Given as goal
 
 abbrev pub invariant-loop : goal.invariant-loop
 invariant-loop g l = IsOf l.pass l.driver

@@ -76,6 +76,7 @@ module _ (script : List ScriptLine) (stream period : ℕ) where
       by_test : (b : Bool) → (if b then Some tick.time else None) ≡ Some time → Some tick.time ≡ Some time
       by_test true k = k
       by_test false k = absurd cc
+
     by_tick : (tick : Option ScriptTick) → last_tick script period (suc number) ≡ tick → tick_of script stream period number ≡ Some time
     by_tick None is = absurd (let k : (let o : Option ℕ = None in o ≡ Some time) = sym (in_time number ∙ ap (time_in _) is) ∙ e in cc)
     by_tick (Some tick) is = tick_is number ∙ (ap (option_map (λ (tick : ScriptTick). tick.time)) is ∙ by_line _ tick (sym (in_time number ∙ ap (time_in _) is) ∙ e))
@@ -98,8 +99,10 @@ promises_are_kept streams script stream period zero pictures legal = any_time (s
 promises_are_kept streams script stream period (suc number) pictures legal = by_time (tick_in_time script stream period number) refl where
   AllFrom : ℕ → List (ShownPicture Picture) → Type 0
   AllFrom time shown = AllByRecursion (λ (one : ShownPicture Picture). time ≤ one.time) shown
+
   same : suc number - 1 ≡ number
   same = omega arith
+
   by_time : (time : Option ℕ) → tick_in_time script stream period number ≡ time → AllFrom (promised script stream period (suc number)) (shown_from script stream period (suc number - 1) pictures)
   by_time None is =
       let none : shown_from script stream period (suc number - 1) pictures ≡ [] = ap (λ n. shown_from script stream period n pictures) same ∙ late_none script stream period number pictures is in
@@ -139,6 +142,7 @@ gives script stream period number time =
   where
     same : suc (number + 1) ≡ suc number + 1
     same = omega arith
+
     by_tick : (next : Option ScriptTick) → option_map_or (λ other. other == time) (option_map (λ (tick : ScriptTick). tick.time) next) false ≡ has_time time next
     by_tick None = refl
     by_tick (Some tick) = refl

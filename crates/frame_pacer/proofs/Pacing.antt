@@ -12,7 +12,7 @@ use Rattle.script_ticks.proofs.Searches.{later_searches_go_on, no_later_ticks}
 use Rattle.script_ticks.specs.Ticks.{first_tick}
 use Rattle.script_ticks.specs.declared.ticks.ScriptTick.{ScriptTick}
 use Rattle.vd_plane.specs.declared.picture.Picture.{Picture}
-use Rattle.driver_model.specs.ShownPictures.{ShownPicture, before_preemption, shown_at, shown_from, tick_from, tick_in_time, tick_of}
+use Rattle.driver_model.specs.ShownPictures.{ShownPicture, shown_at, shown_from, tick_in_time, tick_of}
 use Rattle.player_laws.proofs.Shown.{late_none, later_pictures_show_later, ticks_are_found, ticks_in_time_are_found}
 use Rattle.player_laws.specs.Shown.{gives_way, settled_at, time_before, time_in}
 use Rattle.frame_pacer.specs.Laws.{PromisesAreKept}

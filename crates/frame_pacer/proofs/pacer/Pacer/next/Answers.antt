@@ -1,4 +1,4 @@
-use Rattle.std.proofs.Common.{◌∙◌, ap, sym, subst, ◌≡◌, ◌+◌, ℕ}
+use Rattle.std.proofs.Common.{◌∙◌, ap, sym, subst, ◌+◌}
 use Rattle.frame_pacer.specs.Paced.{IsSettled, settled_time}
 use Rattle.frame_pacer.proofs.Pacing.{is_settled}
 use Rattle.frame_pacer.proofs.pacer.Pacer.next.Goals as goal

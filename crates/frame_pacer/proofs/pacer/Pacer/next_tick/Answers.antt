@@ -1,4 +1,4 @@
-use Rattle.std.proofs.Common.{◌∙◌, ap, sym, ◌≡◌, ℕ}
+use Rattle.std.proofs.Common.{◌∙◌, sym}
 use Rattle.frame_pacer.proofs.Pacing.{next_after, next_is, no_next}
 use Rattle.frame_pacer.proofs.pacer.Pacer.next_tick.Goals as goal
 

@@ -1,4 +1,4 @@
-use Rattle.std.proofs.Common.{sym, ◌≡◌, subst, List, ◌∙◌}
+use Rattle.std.proofs.Common.{sym, subst, ◌∙◌}
 use Rattle.clock_script.specs.Script.{IsLegal}
 use Rattle.frame_pacer.proofs.Pacing.{no_tick_so_late}
 use Rattle.frame_pacer.proofs.pacer.Pacer.tick_behind.Goals as goal

@@ -18,7 +18,11 @@ pub fn told<R: Wait>(rt: &R, alloc: Global, word: &str) -> Result<String, Fault>
     let (driver, pass) = Driver::new(alloc)?;
     let (pass, objects) = made(rt, alloc, &driver, pass)?;
     let answered = match word {
-        "slices" | "bitstream" | "same" => rendered(rt, alloc, &driver, pass, objects, word)?,
+        "slices" | "incomplete" | "bitstream" | "same" => {
+            rendered(rt, alloc, &driver, pass, objects, word)?
+        }
+        "queue" => displayed(rt, &driver, pass, objects)?,
+        "devices" => filled(rt, alloc, &driver, pass)?,
         "promise" | "time" | "preempted" | "other" => twice(
             rt, alloc, &driver, pass, objects, word,
         )?,
@@ -77,7 +81,7 @@ fn once<R: Wait>(
     }
 }
 
-// A render whose target is its reference, which lacks its slice, or whose slice is cut.
+// A render whose target is its reference, which lacks its slice, which has none, or whose slice is cut.
 fn rendered<R: Wait>(
     rt: &R,
     alloc: Global,
@@ -99,7 +103,10 @@ fn rendered<R: Wait>(
         slices.push(&SLICE[..5]).map_err(|_| Fault::TooLong)?;
     }
     let reference = if word == "same" { target } else { source };
-    let info = info_on(reference);
+    let mut info = info_on(reference);
+    if word == "incomplete" {
+        info.slice_count = 0;
+    }
     match render_job(driver.begin_render(rt, alloc, pass, decoder, target, &info, slices)) {
         Ok(job) => Ok(driver.end_render(rt, job.run(&mut OpenGate)).result),
         Err(refusal) => Ok(Err(refusal)),
@@ -147,4 +154,41 @@ fn twice<R: Wait>(
             Ok(driver.queue_display(rt, pass, queue, output, 4).result)
         }
     }
+}
+
+// A display on a queue that has as many entries as a queue takes.
+fn displayed<R: Wait>(
+    rt: &R,
+    driver: &Driver,
+    pass: Pass,
+    objects: Objects,
+) -> Result<Result<(), Refusal>, Fault>
+    requires { IsOf pass driver.now }
+{
+    let mut pass = pass;
+    for time in 0..64 {
+        let entered = driver.queue_display(rt, pass, objects.queue, objects.output, time);
+        pass = answer(entered)?.0;
+    }
+    Ok(
+        driver
+            .queue_display(rt, pass, objects.queue, objects.output, 64)
+            .result,
+    )
+}
+
+// A device beside as many as a driver takes, of which one was made before.
+fn filled<R: Wait>(
+    rt: &R,
+    alloc: Global,
+    driver: &Driver,
+    pass: Pass,
+) -> Result<Result<(), Refusal>, Fault>
+    requires { IsOf pass driver.now }
+{
+    let mut pass = pass;
+    for _ in 1..16 {
+        pass = answer(driver.device_create(rt, alloc, pass))?.0;
+    }
+    Ok(driver.device_create(rt, alloc, pass).result.map(|_| ()))
 }

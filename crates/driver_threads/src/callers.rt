@@ -66,7 +66,7 @@ fn together(a: Option<Vec<u64>>, b: Option<Vec<u64>>) -> Option<Vec<u64>> {
     Some(all)
 }
 
-// Two threads make so many calls each, with passes split from one, which are joined at the end.
+// Two threads make so many calls each, with passes split from one.
 fn call_by_two<R: Threads + Wait + Sync>(
     rt: &R,
     alloc: Global,

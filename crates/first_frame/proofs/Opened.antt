@@ -1,5 +1,5 @@
 -- Bytes that are fed at once, and the end behind them.
-use Rattle.std.proofs.Common.{◌≡◌, ℕ, ◌<◌, ◌≤◌, List, [], ◌∷◌, ◌++◌, length, refl, arith, length-append}
+use Rattle.std.proofs.Common.{ℕ, ◌<◌, ◌≤◌, List, [], ◌∷◌, length, refl, arith, length-append}
 use Rattle.access_units.specs.Acceptors.{MayAsk, MayFeed, fed, no_past}
 
 pub begins : (bytes : List ℕ) → length bytes ≤ 1073741824 → MayFeed no_past bytes

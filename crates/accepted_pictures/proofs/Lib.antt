@@ -3,5 +3,3 @@ pub mod OneDecoded
 pub mod OneReading
 pub mod OneNext
 pub mod SettledFirst
-pub mod SomeContent
-pub mod SomeReading

@@ -78,11 +78,11 @@ settled_read text xs a = elim a.by [
 
 -- ---- such an access unit is one picture
 
-record IsSized (picture : Picture) : Type 0 where
-  ranges : HasRanges picture.begun.info
-  limits : IsWithinLimits (size_in picture)
+pub record IsSized (picture : Picture) : Type 0 where
+  pub ranges : HasRanges picture.begun.info
+  pub limits : IsWithinLimits (size_in picture)
 
-picture_sized : (before : List Picture) (au : AccessUnit) (picture : Picture) → IsReadUnit au → IsPicture before au picture → IsSized picture
+pub picture_sized : (before : List Picture) (au : AccessUnit) (picture : Picture) → IsReadUnit au → IsPicture before au picture → IsSized picture
 picture_sized before au picture read is =
     let named = is.named in
     let sets : IsRead named = subst (λ (o : Option Named). IfSome o IsRead) is.first read in

@@ -100,7 +100,3 @@ HasPictures text decoded fault =
 -- A file has one reading at most: its accepted pictures, each with its samples, and where it isn't accepted, are settled by its bytes.
 abbrev pub HaveOneReading : Type 0
 HaveOneReading = (text : List ℕ) (a b : List Decoded) (f g : Option Fault) → HasPictures text a f → HasPictures text b g → (a ≡ b) × (f ≡ g)
-
--- It isn't so that a file has none.
-abbrev pub LackNoReading : Type 0
-LackNoReading = (text : List ℕ) → ((decoded : List Decoded) (fault : Option Fault) → ¬ HasPictures text decoded fault) → ⊥

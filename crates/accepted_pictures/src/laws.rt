@@ -1,12 +1,11 @@
 // What a file's bytes settle of its pictures.
-ghost use Rattle.accepted_pictures.specs.Files.{HaveOneReading, LackNoReading};
+ghost use Rattle.accepted_pictures.specs.Files.{HaveOneReading};
 ghost use Rattle.accepted_pictures.specs.Laws.{OneThingComesNext, RefusalsAreOfTheFile, RefusalsStay, SettledPicturesAreFirst, SettledPicturesStay};
 
-/// A file has one list of accepted pictures, with their samples, and one place where it isn't accepted, or
-/// none: no more than one such reading, and not none.
+/// A file has one list of accepted pictures at most, with their samples, and one place where it isn't accepted,
+/// or none. That it has such a reading is a law of `file_readings`.
 pub fn files_have_one_reading()
-    ensures most { HaveOneReading }
-    ensures some { LackNoReading }
+    ensures { HaveOneReading }
 {}
 
 /// The pictures that a front of a file settles are the first ones of every file that begins with it, in order.

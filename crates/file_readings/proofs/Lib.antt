@@ -1,4 +1,6 @@
 pub mod Decisions
 pub mod ContentsExist
 pub mod PicturesDecided
+pub mod WholeDecided
+pub mod AcceptedDecided
 pub mod ReadingsExist

@@ -1,4 +1,4 @@
--- A file has a reading, where it is decided of each access unit behind accepted pictures whether it is one.
+-- A file has a reading.
 use Rattle.std.proofs.Common.{◌≡◌, ◌≢◌, ℕ, Bool, true, false, ◌&&◌, cond, List, [], ◌∷◌, ◌++◌, length, map, Option, Some, None, inl, inr, ◌⊎◌, refl, sym, ap, subst, ◌∙◌, arith}
 use Rattle.std.specs.Prelude.{reverse, slice_range}
 use Rattle.std.specs.List.{AllByRecursion}
@@ -9,12 +9,15 @@ use Rattle.nal_units.proofs.Advancing.{text_has_units}
 use Rattle.access_units.specs.AccessUnits.{AccessUnit, access_units, added_to, are_some, begins_another, begins_by, broken_off, grouped, has_slice, unit_alone, with_unit}
 use Rattle.access_units.specs.Contents.{AreTold, Told, places_of, sets_behind}
 use Rattle.access_units.specs.Pictures.{ArePictures}
-use Rattle.accepted_pictures.specs.Files.{AreAllWhole, AreDecoded, Decoded, Fault, HasPictures, IsAcceptedPicture, IsRead, fault_of}
+use Rattle.accepted_pictures.specs.Files.{AreAllWhole, AreDecoded, Decoded, Fault, IsAcceptedPicture, IsRead, fault_of}
 use Rattle.access_units.proofs.OneGrouping.{Settle, all_first, all_units, broken_place, reverse_twice}
 use Rattle.accepted_pictures.proofs.OneDecoded.{AreReadUnits, settled_read}
+use Rattle.accepted_pictures.proofs.OneReading.{one_reading}
 use Rattle.finite.specs.Decided.{Decided}
 use Rattle.finite.proofs.Deciding.{both}
 use Rattle.finite.proofs.Equal.{is_none}
+use Rattle.file_readings.specs.Laws.{FilesHaveReadings, ReadingsAreFunctions}
+use Rattle.file_readings.proofs.AcceptedDecided.{accepted_decided}
 use Rattle.file_readings.proofs.ContentsExist.{tells_some}
 
 -- ---- what units tell
@@ -115,18 +118,12 @@ one_accepted : (au : AccessUnit) (units : List AccessUnit) (decoded : List Decod
 unfolding ArePictures AreAllWhole
 one_accepted au units decoded one are is = record { pictures = (are.pictures, is.picture); whole = (are.whole, is.whole) }
 
--- It is decided of each access unit behind accepted pictures whether it is one, too.
-abbrev pub AreDecidedPictures : Type 0
-AreDecidedPictures =
-    (units : List AccessUnit) (au : AccessUnit) (decoded : List Decoded) → AreReadUnits (au ∷ units) → AreDecoded units decoded
-    → Decided ((one : Decoded) × IsAcceptedPicture decoded au one)
-
-accepted_next : AreDecidedPictures → (au : AccessUnit) (units : List AccessUnit) → AreReadUnits (au ∷ units) → AreAccepted units → AreAccepted (au ∷ units)
-accepted_next decide au units read (inl are) = elim (decide units au are.0 read are.1) [
+accepted_next : (au : AccessUnit) (units : List AccessUnit) → AreReadUnits (au ∷ units) → AreAccepted units → AreAccepted (au ∷ units)
+accepted_next au units read (inl are) = elim (accepted_decided are.0 au read.0) [
   | inl one ↦ inl (one.0 ∷ are.0, one_accepted au units are.0 one.0 are.1 one.1)
   | inr none ↦ inr (record { later = []; au = au; front = units; decoded = are.0; split = refl; are = are.1; none = λ one is. none (one, is) })
 ]
-accepted_next decide au units read (inr not_all) = inr (record {
+accepted_next au units read (inr not_all) = inr (record {
   later = au ∷ not_all.later;
   au = not_all.au;
   front = not_all.front;
@@ -136,9 +133,9 @@ accepted_next decide au units read (inr not_all) = inr (record {
   none = not_all.none;
 })
 
-accepted_some : AreDecidedPictures → (units : List AccessUnit) → AreReadUnits units → AreAccepted units
-accepted_some decide [] read = inl ([], none_accepted)
-accepted_some decide (au ∷ units) read = accepted_next decide au units read (accepted_some decide units read.1)
+accepted_some : (units : List AccessUnit) → AreReadUnits units → AreAccepted units
+accepted_some [] read = inl ([], none_accepted)
+accepted_some (au ∷ units) read = accepted_next au units read (accepted_some units read.1)
 
 no_slices : (slices : List (List ℕ)) → Decided (slices ≡ [])
 no_slices [] = inl refl
@@ -198,8 +195,8 @@ module _ (text : List ℕ) (told : List Told) (places : places_of told ≡ all_u
   unfolding units
   all_settle = record { told = told; each = each; first = all_first (all_units text) told places; by = inr (places, ([], refl)) }
 
-  read_some : AreDecidedPictures → HasReading text
-  read_some decide = elim (accepted_some decide units (settled_read text units all_settle)) [
+  read_some : HasReading text
+  read_some = elim (accepted_some units (settled_read text units all_settle)) [
     | inl are ↦ all_accepted are.0 are.1
     | inr n ↦ elim (both (is_none n.au.refused) (λ fine. no_slices n.au.slices)) [
       | inl tail ↦ tail_left n tail.0 tail.1
@@ -207,15 +204,22 @@ module _ (text : List ℕ) (told : List Told) (places : places_of told ≡ all_u
     ]
   ]
 
--- a file with its accepted pictures and its fault
-abbrev pub Read : List ℕ → Type 0
-Read text = (decoded : List Decoded) × (fault : Option Fault) × HasPictures text decoded fault
-
-pub readings_exist : AreDecidedPictures → (text : List ℕ) → Read text
-readings_exist decide text = elim (cases_lt 1073741824 (length text)) [
+pub readings_exist : FilesHaveReadings
+readings_exist text = elim (cases_lt 1073741824 (length text)) [
   | inl long ↦ ([], Some (record { offset = 0; large = true }), ((λ too_long. (refl, refl)), (λ fits. absurd (fits long))))
   | inr short ↦
       (let all = all_told text in
-      let read = read_some text all.0 all.1 all.2 decide in
+      let read = read_some text all.0 all.1 all.2 in
       (read.0, read.1.0, ((λ long. absurd (omega arith)), (λ fits. read.1.1))))
 ]
+
+-- There is one at most, so that its parts are functions of the bytes.
+pub readings_are_functions : ReadingsAreFunctions
+readings_are_functions = (
+  λ text. (readings_exist text).0,
+  λ text. (readings_exist text).1,
+  record {
+    has = λ text. (readings_exist text).2;
+    only = λ text decoded fault is. let reading = readings_exist text in one_reading text decoded reading.0 fault reading.1 is reading.2;
+  },
+)

@@ -1,1 +1,2 @@
 pub mod UnitContents
+pub mod Laws

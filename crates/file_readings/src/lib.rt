@@ -3,4 +3,6 @@
 
 mod laws;
 
-pub use laws::{pictures_are_decided, units_tell_something};
+pub use laws::{
+    files_have_readings, pictures_are_decided, readings_are_functions, units_tell_something,
+};

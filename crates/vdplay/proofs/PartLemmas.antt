@@ -6,7 +6,8 @@ use Rattle.access_units.specs.AccessUnits.{AccessUnit}
 use Rattle.access_units.specs.Acceptors.{IsSettled}
 use Rattle.access_units.specs.Pictures.{ArePictures}
 use Rattle.accepted_pictures.specs.Files.{AreDecoded, Decoded, Fault, HasPictures, IsTooLong, pictures_in}
-use Rattle.accepted_pictures.proofs.OneReading.{are_decoded, first_pictures, one_reading}
+use Rattle.accepted_pictures.proofs.OneReading.{are_decoded, first_pictures}
+use Rattle.file_readings.proofs.ReadingsExist.{readings_exist}
 use Rattle.vdplay.specs.Output.{end_text, pictures_text, text_of}
 use Rattle.vdplay.specs.Reports.{AppendsAhead, MayFollow}
 use Rattle.vdplay.specs.Run.{AppendsFront, AppendsPart, AppendsText, Begin, place_of}
@@ -29,16 +30,7 @@ pub end_part : (known : Option (List ℕ)) (decoded : List Decoded) (fault : Opt
 end_part None decoded fault command old new has text = tt
 end_part (Some file) decoded fault command old new has part =
     let text = text_of command decoded (place_of fault) in
-    let begun = front_begins part.0 text in
-    record {
-      bytes = take part.0 text;
-      appended = part.1;
-      front = λ others other_fault also.
-          let same = one_reading file decoded others fault other_fault has also in
-          let F : Option Fault → Type 0 = λ f. Begin (take part.0 text) (text_of command decoded (place_of f)) in
-          let D : List Decoded → Type 0 = λ l. Begin (take part.0 text) (text_of command l (place_of other_fault)) in
-          subst D same.0 (subst F same.1 begun);
-    }
+    record { bytes = take part.0 text; appended = part.1; decoded = decoded; fault = fault; pictures = has; front = front_begins part.0 text }
 
 -- The first accepted pictures of a file are the first of all, whatever these are.
 first_of_all : (file : List ℕ) (decoded all : List Decoded) (fault : Option Fault) → AreFirstPictures file decoded → HasPictures file all fault → (more : List Decoded) × (all ≡ more ++ decoded) × MayFollow more decoded
@@ -55,14 +47,20 @@ first_of_all file decoded all fault first has =
 pub first_part : (known : Option (List ℕ)) (decoded : List Decoded) (command : Command) (old new : Option (List ℕ)) → IfSome known (λ file. AreFirstPictures file decoded)
     → AppendsAhead old new command decoded → IfSome known (AppendsPart old new command)
 first_part None decoded command old new first ahead = tt
-first_part (Some file) decoded command old new first ahead = record {
-  bytes = ahead.bytes;
-  appended = ahead.appended;
-  front = λ all fault has.
-      let part = first_of_all file decoded all fault first has in
-      let B : List Decoded → Type 0 = λ l. Begin ahead.bytes (pictures_text command l) in
-      begin_longer ahead.bytes (pictures_text command all) (end_text command (place_of fault)) (subst B (sym part.1) (ahead.ahead part.0 part.2));
-}
+first_part (Some file) decoded command old new first ahead =
+    let reading = readings_exist file in
+    let all = reading.0 in
+    let fault = reading.1 in
+    let part = first_of_all file decoded all fault first reading.2 in
+    let B : List Decoded → Type 0 = λ l. Begin ahead.bytes (pictures_text command l) in
+    record {
+      bytes = ahead.bytes;
+      appended = ahead.appended;
+      decoded = all;
+      fault = fault;
+      pictures = reading.2;
+      front = begin_longer ahead.bytes (pictures_text command all) (end_text command (place_of fault)) (subst B (sym part.1) (ahead.ahead part.0 part.2));
+    }
 
 pub none_first : (known : Option (List ℕ)) → IfSome known (λ file. AreFirstPictures file [])
 none_first None = tt

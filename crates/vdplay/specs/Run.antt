@@ -40,7 +40,10 @@ Begin bytes text = (rest : List ℕ) × (text ≡ bytes ++ rest)
 pub record AppendsPart (old new : Option (List ℕ)) (command : Command) (file : List ℕ) : Type 0 where
   pub bytes : List ℕ
   pub appended : Appends old new bytes
-  pub front : (decoded : List Decoded) (fault : Option Fault) → HasPictures file decoded fault → Begin bytes (text_of command decoded (place_of fault))
+  pub decoded : List Decoded
+  pub fault : Option Fault
+  pub pictures : HasPictures file decoded fault
+  pub front : Begin bytes (text_of command decoded (place_of fault))
 
 -- What was appended, by how the run ended. A run that stopped early appended a part.
 abbrev pub HasAppended : Exit → Option (List ℕ) → Option (List ℕ) → Command → List ℕ → Type 0

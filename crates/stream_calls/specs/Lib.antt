@@ -1,5 +1,7 @@
 pub mod Counted
+pub mod DeviceLaws
 pub mod Displays
+pub mod HeldNames
 pub mod Laws
 pub mod OneDevice
 pub mod OutputPictures

@@ -4,6 +4,11 @@
 //! no time too early (specs/Promises.antt). All of it is in specs/StreamCalls.antt.
 #![tactic(auto)]
 
+mod device_laws;
 mod laws;
 
+pub use device_laws::{
+    live_objects_are_held, names_are_held, names_are_worked, others_keep_one_device,
+    own_calls_keep_one_device, streams_make_little,
+};
 pub use laws::{calls_count, feeding_keeps_stream_calls, no_calls_are_a_streams, strangers_call};

@@ -14,15 +14,19 @@ use Rattle.recon.specs.References.{no_reference, reference_at}
 use Rattle.vd_plane.specs.declared.picture.Picture.{Picture}
 use Rattle.driver_model.specs.Objects.{VideoSurface, as_video}
 use Rattle.driver_model.specs.States.{Found, State, named}
-use Rattle.picture_buffer.specs.Renaming.{HasNumber, handle_of, renamed, renamed_entry}
+use Rattle.picture_buffer.specs.Renaming.{handle_of, renamed, renamed_entry}
 use Rattle.picture_buffer.proofs.Entries.{no_other_name}
-use Rattle.picture_buffer.specs.Handles.{FindsPictures}
+use Rattle.picture_buffer.specs.Handles.{FindsNumbers}
 
 same_place : (a b : Found VideoSurface) → (let o : Option (Found VideoSurface) = Some a in o ≡ Some b) → a.place ≡ b.place
 same_place a b e = let k : a ≡ b = cc (e) in ap (λ (f : Found VideoSurface). f.place) k
 
-module _ (decoder : ℕ) (surfaces : List ℕ) (size : SizeMbs) (pictures : ℕ → Picture) (d : State) (finds : FindsPictures decoder surfaces size pictures d) where
-  entry_by : (entry : Reference) → HasNumber entry → (b : Bool) → (is_unused entry || is_absent entry) ≡ b
+-- an entry that is used, and isn't an absent frame, names such a number
+abbrev pub HasSome : (ℕ → Type 0) → Reference → Type 0
+HasSome IsNumber entry = is_unused entry ≡ false → is_absent entry ≡ false → IsNumber entry.surface
+
+module _ (IsNumber : ℕ → Type 0) (decoder : ℕ) (surfaces : List ℕ) (size : SizeMbs) (pictures : ℕ → Picture) (d : State) (finds : FindsNumbers IsNumber decoder surfaces size pictures d) where
+  entry_by : (entry : Reference) → HasSome IsNumber entry → (b : Bool) → (is_unused entry || is_absent entry) ≡ b
       → IsRenamedEntry entry (if b then entry else with_surface entry (handle_of surfaces entry.surface))
   entry_by entry has true e = record { others = refl; unused = λ unused. refl; absent = λ absent. refl; named = λ names. names }
   entry_by entry has false e =
@@ -36,10 +40,10 @@ module _ (decoder : ℕ) (surfaces : List ℕ) (size : SizeMbs) (pictures : ℕ 
         named = λ names. record { used = name.0; present = name.1 };
       }
 
-  entry_renamed : (entry : Reference) → HasNumber entry → IsRenamedEntry entry (renamed_entry surfaces entry)
+  entry_renamed : (entry : Reference) → HasSome IsNumber entry → IsRenamedEntry entry (renamed_entry surfaces entry)
   entry_renamed entry has = entry_by entry has (is_unused entry || is_absent entry) refl
 
-  module _ (info : PictureInfo) (has : All HasNumber info.references) where
+  module _ (info : PictureInfo) (has : All (HasSome IsNumber) info.references) where
     entry_at : (place : ℕ) → place < length info.references → reference_at (renamed surfaces info) place ≡ renamed_entry surfaces (reference_at info place)
     entry_at place inside = get_or-map (renamed_entry surfaces) info.references place no_reference no_reference inside
 
@@ -56,7 +60,7 @@ module _ (decoder : ℕ) (surfaces : List ℕ) (size : SizeMbs) (pictures : ℕ 
         let other : (is_unused entry || is_absent entry) ≡ false = or_from (is_unused entry) (is_absent entry) names.used names.present in
         ap (λ b. (if b then entry else with_surface entry (handle_of surfaces entry.surface)).surface) other
 
-    handles_apart : (one other : ℕ) → one < 17 → other < 17 → handle_of surfaces one ≡ handle_of surfaces other → one ≡ other
+    handles_apart : (one other : ℕ) → IsNumber one → IsNumber other → handle_of surfaces one ≡ handle_of surfaces other → one ≡ other
     handles_apart one other small also same =
         finds.apart one other small also (same_place _ _ (sym (finds.each one small).names ∙ (ap (λ handle. named d as_video handle) same ∙ (finds.each other also).names)))
 

@@ -46,7 +46,7 @@ whole one now a (DecoderObject of) none same = same ∙ plain_still one a none
 whole one now a (MixerObject of) none same = same ∙ plain_still one a none
 whole one now a (QueueObject of) none same = same ∙ plain_still one a none
 
-video_plain : (content : Content) (of : VideoSurface) → as_video content ≡ Some of → (as_device content ≡ None) × (is_kept content ≡ true)
+pub video_plain : (content : Content) (of : VideoSurface) → as_video content ≡ Some of → (as_device content ≡ None) × (is_kept content ≡ true)
 video_plain (DeviceObject is) of e = nothing_at of e
 video_plain (VideoObject is) of e = (refl, refl)
 video_plain (OutputObject is) of e = nothing_at of e
@@ -54,7 +54,7 @@ video_plain (DecoderObject is) of e = nothing_at of e
 video_plain (MixerObject is) of e = nothing_at of e
 video_plain (QueueObject is) of e = nothing_at of e
 
-decoder_plain : (content : Content) (of : Decoder) → as_decoder content ≡ Some of → (as_device content ≡ None) × (is_kept content ≡ true)
+pub decoder_plain : (content : Content) (of : Decoder) → as_decoder content ≡ Some of → (as_device content ≡ None) × (is_kept content ≡ true)
 decoder_plain (DeviceObject is) of e = nothing_at of e
 decoder_plain (VideoObject is) of e = nothing_at of e
 decoder_plain (OutputObject is) of e = nothing_at of e
@@ -102,7 +102,7 @@ module _ (history : List Item) (old new : State) (caller : List ℕ) (asked : Ca
       apart_in (history ++ item ∷ []) (counted new) (histories_go_on history old (counted new) item leads (new, step, refl))
 
   -- what a name finds that is no device is found still
-  found_still : {T : Type 0} (as_kind : Content → Option T) (plain : (content : Content) (of : T) → as_kind content ≡ Some of → (as_device content ≡ None) × (is_kept content ≡ true))
+  pub found_still : {T : Type 0} (as_kind : Content → Option T) (plain : (content : Content) (of : T) → as_kind content ≡ Some of → (as_device content ≡ None) × (is_kept content ≡ true))
       → (name : ℕ) (on : Found T) → LeavesPlace old on.place asked → named old as_kind name ≡ Some on → named new as_kind name ≡ Some on
   found_still as_kind plain name on leaves found =
       let is = named-Some as_kind name old on found in
@@ -116,7 +116,7 @@ module _ (history : List Item) (old new : State) (caller : List ℕ) (asked : Ca
       ∙ ap (λ d. Some (record { place = on.place; device = d; value = on.value })) (sym is.2.of_device)
 
   -- a device that isn't preempted
-  device_still : (device : ℕ) (root : Device) → LeavesPlace old device asked → content_at old as_device device ≡ Some root → root.is_preempted ≡ false
+  pub device_still : (device : ℕ) (root : Device) → LeavesPlace old device asked → content_at old as_device device ≡ Some root → root.is_preempted ≡ false
       → (now : Device) × (content_at new as_device device ≡ Some now) × (now.is_preempted ≡ false)
   device_still device root leaves stands awake = by_object (slice_get old.objects device) refl stands where
     by_object : (o : Option Object) → slice_get old.objects device ≡ o → option_and_then (λ (object : Object). as_device object.content) o ≡ Some root
@@ -130,7 +130,7 @@ module _ (history : List Item) (old new : State) (caller : List ℕ) (asked : Ca
 -- ---- the law
 
 -- the object that a name of another handle finds stands elsewhere
-elsewhere : {T U : Type 0} (as_kind : Content → Option T) (as_other : Content → Option U) (s : State) (name other : ℕ) (on : Found T) (found : Found U)
+pub elsewhere : {T U : Type 0} (as_kind : Content → Option T) (as_other : Content → Option U) (s : State) (name other : ℕ) (on : Found T) (found : Found U)
     → named s as_kind name ≡ Some on → named s as_other other ≡ Some found → name ≢ other → found.place ≢ on.place
 elsewhere as_kind as_other s name other on found is also differs same =
     let a = named-Some as_kind name s on is in
@@ -139,7 +139,7 @@ elsewhere as_kind as_other s name other on found is also differs same =
     differs (sym a.2.has_name ∙ (sym (ap (λ (o : Object). o.name) one) ∙ b.2.has_name))
 
 -- objects of different kinds stand at different places
-kinds_apart : {T U : Type 0} (as_kind : Content → Option T) (as_other : Content → Option U) (disjoint : (content : Content) (a : T) (b : U) → as_kind content ≡ Some a → as_other content ≡ Some b → ⊥)
+pub kinds_apart : {T U : Type 0} (as_kind : Content → Option T) (as_other : Content → Option U) (disjoint : (content : Content) (a : T) (b : U) → as_kind content ≡ Some a → as_other content ≡ Some b → ⊥)
     → (s : State) (one other : ℕ) (a : T) (b : U) → content_at s as_kind one ≡ Some a → content_at s as_other other ≡ Some b → one ≢ other
 kinds_apart as_kind as_other disjoint s one other a b is also same =
     by_object (slice_get s.objects other) (ap (λ p. option_and_then (λ (object : Object). as_kind object.content) (slice_get s.objects p)) (sym same) ∙ is) also where
@@ -147,21 +147,21 @@ kinds_apart as_kind as_other disjoint s one other a b is also same =
       by_object None e k = nothing_at a e
       by_object (Some object) e k = disjoint object.content a b e k
 
-found_content : {T : Type 0} (as_kind : Content → Option T) (s : State) (name : ℕ) (on : Found T) → named s as_kind name ≡ Some on → content_at s as_kind on.place ≡ Some on.value
+pub found_content : {T : Type 0} (as_kind : Content → Option T) (s : State) (name : ℕ) (on : Found T) → named s as_kind name ≡ Some on → content_at s as_kind on.place ≡ Some on.value
 found_content as_kind s name on found =
     let is = named-Some as_kind name s on found in
     ap (option_and_then (λ (object : Object). as_kind object.content)) is.1 ∙ is.2.is_kind
 
-no_device : (content : Content) (of : Device) → as_device content ≡ None → as_device content ≡ Some of → ⊥
+pub no_device : (content : Content) (of : Device) → as_device content ≡ None → as_device content ≡ Some of → ⊥
 no_device content of none is = nothing_at of (sym none ∙ is)
 
-video_device : (content : Content) (a : VideoSurface) (b : Device) → as_video content ≡ Some a → as_device content ≡ Some b → ⊥
+pub video_device : (content : Content) (a : VideoSurface) (b : Device) → as_video content ≡ Some a → as_device content ≡ Some b → ⊥
 video_device content a b is also = no_device content b (video_plain content a is).0 also
 
-decoder_device : (content : Content) (a : Decoder) (b : Device) → as_decoder content ≡ Some a → as_device content ≡ Some b → ⊥
+pub decoder_device : (content : Content) (a : Decoder) (b : Device) → as_decoder content ≡ Some a → as_device content ≡ Some b → ⊥
 decoder_device content a b is also = no_device content b (decoder_plain content a is).0 also
 
-video_decoder : (content : Content) (a : VideoSurface) (b : Decoder) → as_video content ≡ Some a → as_decoder content ≡ Some b → ⊥
+pub video_decoder : (content : Content) (a : VideoSurface) (b : Decoder) → as_video content ≡ Some a → as_decoder content ≡ Some b → ⊥
 video_decoder (DeviceObject of) a b is also = nothing_at a is
 video_decoder (VideoObject of) a b is also = nothing_at b also
 video_decoder (OutputObject of) a b is also = nothing_at a is

@@ -20,10 +20,11 @@ use Rattle.driver_model.specs.Renders.{Rendering, given_now, info_taken, is_of_o
 use Rattle.driver_model.specs.Sizes.{is_same_size}
 use Rattle.driver_model.specs.States.{Found, State, content_at, is_preempted, named}
 use Rattle.driver_model.proofs.Rows.{in_use-is}
-use Rattle.picture_buffer.specs.Renaming.{HasNumber, IsOther, handle_of, picture_of, renamed, renamed_entry}
-use Rattle.picture_buffer.specs.Handles.{FindsPictures}
+use Rattle.picture_buffer.specs.Renaming.{handle_of, picture_of, renamed, renamed_entry}
+use Rattle.picture_buffer.specs.Handles.{FindsNumbers}
 use Rattle.picture_buffer.specs.Rest.{decoder_at, surface_at}
 use Rattle.picture_buffer.proofs.Entries.{no_other_name}
+use Rattle.picture_buffer.proofs.HandleEntries.{HasSome}
 
 -- a device that stands there and isn't preempted
 not_preempted : (d : State) (device : ℕ) (root : Device) → content_at d as_device device ≡ Some root → root.is_preempted ≡ false → is_preempted d device ≡ false
@@ -48,7 +49,7 @@ further_is arg device found on is same = ap (further_handle arg device) is ∙ a
 reference_by : Bool → Looked (Found VideoSurface) → Looked (Option (Found VideoSurface))
 reference_by none found = if none then Ok None else (found >>= λ on. Ok (Some on))
 
-module _ (decoder : ℕ) (surfaces : List ℕ) (size : SizeMbs) (pictures : ℕ → Picture) (d : State) (finds : FindsPictures decoder surfaces size pictures d) where
+module _ (IsNumber : ℕ → Type 0) (decoder : ℕ) (surfaces : List ℕ) (size : SizeMbs) (pictures : ℕ → Picture) (d : State) (finds : FindsNumbers IsNumber decoder surfaces size pictures d) where
   -- the surface of a number
   abbrev pub surface : ℕ → Found VideoSurface
   surface number = surface_at (finds.place_of number) finds.device size (pictures number)
@@ -57,7 +58,7 @@ module _ (decoder : ℕ) (surfaces : List ℕ) (size : SizeMbs) (pictures : ℕ 
   abbrev pub named_by : Reference → Option (Found VideoSurface)
   named_by entry = if is_unused entry || is_absent entry then None else Some (surface entry.surface)
 
-  one_found : (arg : ℕ) (entry : Reference) → HasNumber entry → reference d finds.device arg (renamed_entry surfaces entry) ≡ Ok (named_by entry)
+  one_found : (arg : ℕ) (entry : Reference) → HasSome IsNumber entry → reference d finds.device arg (renamed_entry surfaces entry) ≡ Ok (named_by entry)
   unfolding reference_by
   one_found arg entry has = by (is_unused entry || is_absent entry) refl where
     by : (b : Bool) → (is_unused entry || is_absent entry) ≡ b
@@ -72,7 +73,7 @@ module _ (decoder : ℕ) (surfaces : List ℕ) (size : SizeMbs) (pictures : ℕ 
         ap (λ t. reference_by t (further_handle arg finds.device (named d as_video handle))) none
         ∙ ap (λ (l : Looked (Found VideoSurface)). l >>= λ on. Ok (Some on)) (further_is arg finds.device (named d as_video handle) (surface entry.surface) there.names refl)
 
-  all_found : (arg : ℕ) (entries : List Reference) → All HasNumber entries → references d finds.device arg (map (renamed_entry surfaces) entries) ≡ Ok (map named_by entries)
+  all_found : (arg : ℕ) (entries : List Reference) → All (HasSome IsNumber) entries → references d finds.device arg (map (renamed_entry surfaces) entries) ≡ Ok (map named_by entries)
   unfolding references
   all_found arg [] has = refl
   all_found arg (entry ∷ later) has =
@@ -95,19 +96,17 @@ module _ (decoder : ℕ) (surfaces : List ℕ) (size : SizeMbs) (pictures : ℕ 
   same_size : is_same_size size size ≡ true
   same_size = let a = eq-eqb size.width size.width refl in let b = eq-eqb size.height size.height refl in grind (arith, nat_tests, a, b)
 
-  module _ (number : ℕ) (small : number < 17) (info : PictureInfo) (others : All (IsOther number) info.references) (accepted : IsAccepted 0 16 (renamed surfaces info)) where
-    pub numbered : All HasNumber info.references
-    numbered k e lt used present = (others k e lt used present).0
-
+  -- a render into a surface that is none of the numbers'
+  module _ (target place : ℕ) (before : Picture) (there : named d as_video target ≡ Some (surface_at place finds.device size before)) (away : (number : ℕ) → IsNumber number → finds.place_of number ≢ place)
+      (info : PictureInfo) (has : All (HasSome IsNumber) info.references) (accepted : IsAccepted 0 16 (renamed surfaces info)) where
     abbrev pub on : Rendering
-    on = record { decoder = decoder_at finds.decoder_place finds.device size; target = surface number; references = map named_by info.references }
+    on = record { decoder = decoder_at finds.decoder_place finds.device size; target = surface_at place finds.device size before; references = map named_by info.references }
 
     not_own : is_own_reference on ≡ false
-    not_own = none_is (λ found. found.place == finds.place_of number) info.references (λ k e lt.
+    not_own = none_is (λ found. found.place == place) info.references (λ k e lt.
         let entry = slice_index_or info.references k e in
-        test_by (λ found. found.place == finds.place_of number) entry (λ used present.
-        let other = others k e lt used present in
-        let apart : finds.place_of entry.surface ≢ finds.place_of number = λ same. other.1 (finds.apart entry.surface number other.0 small same) in
+        test_by (λ found. found.place == place) entry (λ used present.
+        let apart : finds.place_of entry.surface ≢ place = away entry.surface (has k e lt used present) in
         grind (arith, nat_tests, apart)))
 
     not_other_size : is_of_other_size on ≡ false
@@ -119,16 +118,16 @@ module _ (decoder : ℕ) (surfaces : List ℕ) (size : SizeMbs) (pictures : ℕ 
     abbrev entries : List Reference
     entries = (renamed surfaces info).references
 
-    rendering_is : rendering d decoder (handle_of surfaces number) entries ≡ Ok on
+    rendering_is : rendering d decoder target entries ≡ Ok on
     rendering_is =
-        let behind : Found Decoder → Looked Rendering = λ one. further_handle 1 one.device (named d as_video (handle_of surfaces number)) >>= λ target. references d one.device 2 entries >>= λ found. Ok (record { decoder = one; target = target; references = found }) in
+        let behind : Found Decoder → Looked Rendering = λ one. further_handle 1 one.device (named d as_video target) >>= λ onto. references d one.device 2 entries >>= λ found. Ok (record { decoder = one; target = onto; references = found }) in
         let decodes = decoder_at finds.decoder_place finds.device size in
         ap (λ (l : Looked (Found Decoder)). l >>= behind) (in_use-is d 0 (named d as_decoder decoder) decodes finds.decodes (not_preempted d finds.device finds.root finds.stands finds.awake))
-        ∙ (ap (λ (l : Looked (Found VideoSurface)). l >>= λ target. references d finds.device 2 entries >>= λ found. Ok (record { decoder = decodes; target = target; references = found }))
-        (further_is 1 finds.device (named d as_video (handle_of surfaces number)) (surface number) (finds.each number small).names refl)
-        ∙ ap (λ (l : Looked (List (Option (Found VideoSurface)))). l >>= λ found. Ok (record { decoder = decodes; target = surface number; references = found })) (all_found 2 info.references numbered))
+        ∙ (ap (λ (l : Looked (Found VideoSurface)). l >>= λ onto. references d finds.device 2 entries >>= λ found. Ok (record { decoder = decodes; target = onto; references = found }))
+        (further_is 1 finds.device (named d as_video target) (surface_at place finds.device size before) there refl)
+        ∙ ap (λ (l : Looked (List (Option (Found VideoSurface)))). l >>= λ found. Ok (record { decoder = decodes; target = surface_at place finds.device size before; references = found })) (all_found 2 info.references has))
 
-    pub renders : render d decoder (handle_of surfaces number) (renamed surfaces info) ≡ Ok on
+    pub renders : render d decoder target (renamed surfaces info) ≡ Ok on
     renders =
         let at_info : Rendering → Looked Rendering = λ found. info_taken found.decoder.value (renamed surfaces info) >> Ok found in
         let at_sizes : Rendering → Looked Rendering = λ found. refused_if (is_of_other_size found) BadSize >> at_info found in

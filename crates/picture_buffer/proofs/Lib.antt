@@ -16,3 +16,5 @@ pub mod HandleMoves
 pub mod HandleRenders
 pub mod HandleSteps
 pub mod HandleKept
+pub mod HandleSurfaces
+pub mod HandleDecoders

@@ -7,4 +7,4 @@ mod making;
 mod renaming;
 
 pub use buffer::{NUMBERS, PictureBuffer};
-pub use laws::pictures_are_found_by_handles;
+pub use laws::{pictures_are_found_by_handles, references_are_found_by_handles, surfaces_are_kept};

@@ -1,6 +1,13 @@
 pub mod Holding
 pub mod ItemLists
+pub mod KeptNames
+pub mod KeptSteps
 pub mod LittleMade
 pub mod LiveNames
 pub mod NextItem
 pub mod NoCalls
+pub mod OthersCalls
+pub mod OthersFound
+pub mod OthersGo
+pub mod OthersLead
+pub mod OthersLeft

@@ -2,10 +2,12 @@ pub mod Counted
 pub mod DeviceLaws
 pub mod Displays
 pub mod HeldNames
+pub mod KeptObjects
 pub mod Laws
 pub mod OneDevice
+pub mod OthersLeave
 pub mod OutputPictures
 pub mod Promises
 pub mod Renders
-pub mod StreamCalls
 pub mod Strangers
+pub mod StreamCalls

@@ -6,9 +6,13 @@
 
 mod device_laws;
 mod laws;
+mod others_laws;
 
 pub use device_laws::{
     live_objects_are_held, names_are_held, names_are_worked, others_keep_one_device,
     own_calls_keep_one_device, streams_make_little,
 };
 pub use laws::{calls_count, feeding_keeps_stream_calls, no_calls_are_a_streams, strangers_call};
+pub use others_laws::{
+    objects_are_kept, others_go_on_without_strangers, others_leave_what_is_the_streams,
+};

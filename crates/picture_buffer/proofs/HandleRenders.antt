@@ -75,7 +75,8 @@ module _ (IsNumber : ℕ → Type 0) (decoder : ℕ) (surfaces : List ℕ) (size
       renamed_outcome inside info size (map (picture_of pictures) info.references) payloads o picture back
       (subst (λ (g : Given). IsOutcome g payloads o picture) (gives IsNumber decoder surfaces size pictures d finds target place before there away info has still) is)
 
-  sized : (payloads : List (Option (List ℕ))) (o : Outcome) (picture : Picture) → IsOutcome (given info size (map (picture_of pictures) info.references)) payloads o picture → o ≡ outcome.Ok → HasSize picture size
+  sized : (payloads : List (Option (List ℕ))) (o : Outcome) (picture : Picture)
+      → IsOutcome (given info size (map (picture_of pictures) info.references)) payloads o picture → o ≡ outcome.Ok → HasSize picture size
   sized payloads outcome.Ok picture is e = whole_size (given info size (map (picture_of pictures) info.references)) payloads picture is
   sized payloads (outcome.Bitstream slice) picture is e = absurd (cc (e))
   sized payloads (outcome.Incomplete macroblocks) picture is e = absurd (cc (e))

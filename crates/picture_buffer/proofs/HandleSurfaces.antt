@@ -51,7 +51,8 @@ module _ (s : State) (name place device : ℕ) (size : SizeMbs) (picture : Pictu
   leaves_place asked leaves = tt
 
 -- where all objects stay
-surface_still : (s t : State) → t.objects ≡ s.objects → (name place device : ℕ) (size : SizeMbs) (picture : Picture) → NamesSurface s name place device size picture → NamesSurface t name place device size picture
+surface_still : (s t : State) → t.objects ≡ s.objects → (name place device : ℕ) (size : SizeMbs) (picture : Picture)
+    → NamesSurface s name place device size picture → NamesSurface t name place device size picture
 surface_still s t same name place device size picture there = record { names = ap (found_from as_video name 0) same ∙ there.names; kind = there.kind; sized = there.sized }
 
 pub items_leave_surfaces : ItemsLeaveSurfaces
@@ -73,7 +74,8 @@ module _ (old new : State) (target place device : ℕ) (size : SizeMbs) (before 
   value = record { size = size; picture = picture }
 
   -- what a name finds
-  finds_now : (name : ℕ) (on : Found VideoSurface) → named old as_video name ≡ Some on → named new as_video name ≡ Some (if on.place == place then record on { value = value } else on)
+  finds_now : (name : ℕ) (on : Found VideoSurface) → named old as_video name ≡ Some on
+      → named new as_video name ≡ Some (if on.place == place then record on { value = value } else on)
   finds_now name on found =
       let is = named-Some as_video target old (surface_at place device size before) there.names in
       let zero_more : 0 + place ≡ place = omega arith in
@@ -104,7 +106,8 @@ module _ (old new : State) (target place device : ℕ) (size : SizeMbs) (before 
 has_named : (info : PictureInfo) → All (HasSome (IsNamedBy info)) info.references
 has_named info k e lt used present = (slice_index_or info.references k e, (k, lt, get_or_default info.references k (slice_index_or info.references k e) e lt), used, present, refl)
 
-after_render : (old new : State) (target place device : ℕ) (size : SizeMbs) (before : Picture) → NamesSurface old target place device size before → (o : Outcome) (picture : Picture) → (o ≡ outcome.Ok → HasSize picture size)
+after_render : (old new : State) (target place device : ℕ) (size : SizeMbs) (before : Picture) → NamesSurface old target place device size before
+    → (o : Outcome) (picture : Picture) → (o ≡ outcome.Ok → HasSize picture size)
     → new.objects ≡ (decoded old (surface_at place device size before) picture o).objects → NamesSurface new target place device size (picture_after before o picture) × KeepsOtherSurfaces old new target
 after_render old new target place device size before there outcome.Ok picture whole objects =
     (has_picture old new target place device size before picture there objects (whole refl), keeps_others old new target place device size before picture there objects)

@@ -51,7 +51,8 @@ module _ {T : Type 0} (as_kind : Content → Option T) (kept : (content : Conten
     pub content : still now.content ≡ still was.content
     pub finds : (value : T) → as_kind now.content ≡ Some value → named new as_kind name ≡ Some (record on { value = value })
 
-  both : (history : List Item) (new : State) (caller : List ℕ) (asked : Call) (reply : Reply) → IsStateOf history old → Step old caller asked reply new → LeavesObject old name on.device asked → Both new
+  both : (history : List Item) (new : State) (caller : List ℕ) (asked : Call) (reply : Reply) → IsStateOf history old → Step old caller asked reply new
+      → LeavesObject old name on.device asked → Both new
   both history new caller asked reply state step leaves =
       let is = named-Some as_kind name old on there in
       let stays = step_stays on.place old new caller reply asked (leaves_place asked leaves) step is.0 is.1 (kept is.0.content on.value is.2.is_kind) in
@@ -116,7 +117,8 @@ mixer_now (QueueObject is) b of e same = nothing_at of e
 abbrev plain_output : OutputSurface → OutputSurface
 plain_output of = record of { bytes = []; last_flip = None }
 
-output_now : (a b : Content) (of : OutputSurface) → as_output a ≡ Some of → still b ≡ still a → (now : OutputSurface) × (as_output b ≡ Some now) × IsSameOutput of now
+output_now : (a b : Content) (of : OutputSurface) → as_output a ≡ Some of → still b ≡ still a
+    → (now : OutputSurface) × (as_output b ≡ Some now) × IsSameOutput of now
 output_now (OutputObject is) b of e same = by b (ap as_output same ∙ ap (λ (x : OutputSurface). Some (plain_output x)) (some_is is of e)) where
   by : (b : Content) → as_output (still b) ≡ Some (plain_output of) → (now : OutputSurface) × (as_output b ≡ Some now) × IsSameOutput of now
   by (OutputObject now) k =
@@ -136,7 +138,8 @@ output_now (QueueObject is) b of e same = nothing_at of e
 abbrev plain_queue : PresentationQueue → PresentationQueue
 plain_queue of = record of { queue = empty_queue }
 
-queue_now : (a b : Content) (of : PresentationQueue) → as_queue a ≡ Some of → still b ≡ still a → (now : Queue ℕ) × (as_queue b ≡ Some (record of { queue = now }))
+queue_now : (a b : Content) (of : PresentationQueue) → as_queue a ≡ Some of → still b ≡ still a
+    → (now : Queue ℕ) × (as_queue b ≡ Some (record of { queue = now }))
 queue_now (QueueObject is) b of e same = by b (ap as_queue same ∙ ap (λ (x : PresentationQueue). Some (plain_queue x)) (some_is is of e)) where
   by : (b : Content) → as_queue (still b) ≡ Some (plain_queue of) → (now : Queue ℕ) × (as_queue b ≡ Some (record of { queue = now }))
   by (QueueObject now) k =

@@ -88,7 +88,8 @@ no_device (OutputObject is) of e = nothing_at of e
 no_device (MixerObject is) of e = nothing_at of e
 no_device (QueueObject is) of e = nothing_at of e
 
-output_still : (content : Content) (of : OutputSurface) (bytes : List ℕ) → as_output content ≡ Some of → still (OutputObject (record of { bytes = bytes })) ≡ still content
+output_still : (content : Content) (of : OutputSurface) (bytes : List ℕ) → as_output content ≡ Some of
+    → still (OutputObject (record of { bytes = bytes })) ≡ still content
 output_still (OutputObject is) of bytes e = ap (λ (x : OutputSurface). OutputObject (record x { bytes = []; last_flip = None })) (sym (some_is is of e))
 output_still (DeviceObject is) of bytes e = nothing_at of e
 output_still (VideoObject is) of bytes e = nothing_at of e
@@ -96,7 +97,8 @@ output_still (DecoderObject is) of bytes e = nothing_at of e
 output_still (MixerObject is) of bytes e = nothing_at of e
 output_still (QueueObject is) of bytes e = nothing_at of e
 
-queue_still : (content : Content) (of : PresentationQueue) (queue : Queue ℕ) → as_queue content ≡ Some of → still (QueueObject (record of { queue = queue })) ≡ still content
+queue_still : (content : Content) (of : PresentationQueue) (queue : Queue ℕ) → as_queue content ≡ Some of
+    → still (QueueObject (record of { queue = queue })) ≡ still content
 queue_still (QueueObject is) of queue e = ap (λ (x : PresentationQueue). QueueObject (record x { queue = empty_queue })) (sym (some_is is of e))
 queue_still (DeviceObject is) of queue e = nothing_at of e
 queue_still (VideoObject is) of queue e = nothing_at of e
@@ -140,13 +142,16 @@ module _ (place : ℕ) where
       let s = second f.0 f.1 kept in
       (s.0, s.1, record { name = s.2.name ∙ f.2.name; device = s.2.device ∙ f.2.device; is_live = s.2.is_live ∙ f.2.is_live; content = s.2.content ∙ f.2.content })
 
-  stays_changed : (change : Object → Object) (other : ℕ) (objects : List Object) → ((one : Object) → other ≡ place → slice_get objects place ≡ Some one → is_kept one.content ≡ true → IsStill one (change one)) → Stays objects (changed_at other change objects)
+  stays_changed : (change : Object → Object) (other : ℕ) (objects : List Object)
+      → ((one : Object) → other ≡ place → slice_get objects place ≡ Some one → is_kept one.content ≡ true → IsStill one (change one))
+      → Stays objects (changed_at other change objects)
   stays_changed change other objects same one at is = elim (cases_eq other place) [
     | inl e ↦ (change one, changed_here change other place objects one e at, same one e at is)
     | inr apart ↦ (one, changed_other change other place objects apart ∙ at, still_same one)
   ]
 
-  stays_map : (change : Object → Object) (objects : List Object) → ((one : Object) → slice_get objects place ≡ Some one → is_kept one.content ≡ true → IsStill one (change one)) → Stays objects (map change objects)
+  stays_map : (change : Object → Object) (objects : List Object)
+      → ((one : Object) → slice_get objects place ≡ Some one → is_kept one.content ≡ true → IsStill one (change one)) → Stays objects (map change objects)
   stays_map change objects same one at is = (change one, mapped objects place at, same one at is) where
     mapped : (objects : List Object) (place : ℕ) → slice_get objects place ≡ Some one → slice_get (map change objects) place ≡ Some (change one)
     mapped [] place at = nothing_at one at
@@ -185,7 +190,8 @@ module _ (place : ℕ) (old new : State) (caller : List ℕ) (reply : Reply) whe
   same : new ≡ old → Stays place old.objects new.objects
   same e = left old (stays_same place old.objects) e
 
-  goes : {A : Type 0} (looked : Looked A) (D : A → Type 0) → ((on : A) → looked ≡ Ok on → D on → Stays place old.objects new.objects) → Goes old reply new looked D → Stays place old.objects new.objects
+  goes : {A : Type 0} (looked : Looked A) (D : A → Type 0) → ((on : A) → looked ≡ Ok on → D on → Stays place old.objects new.objects)
+      → Goes old reply new looked D → Stays place old.objects new.objects
   goes (Ok on) D row p = row on refl p
   goes (Err r) D row p = same p.1
 
@@ -210,7 +216,8 @@ module _ (place : ℕ) (old new : State) (caller : List ℕ) (reply : Reply) whe
       absurd (false≢true (sym (not_kept stands.0.content on.value stands.2.is_kind) ∙ (ap (λ (o : Object). is_kept o.content) one_is ∙ is))))
 
   -- what is named gets other content, of which the same is kept
-  alike : {T : Type 0} (as_kind : Content → Option T) (name : ℕ) (on : Found T) → named old as_kind name ≡ Some on → (content : Content) → ((was : Content) → as_kind was ≡ Some on.value → still content ≡ still was)
+  alike : {T : Type 0} (as_kind : Content → Option T) (name : ℕ) (on : Found T) → named old as_kind name ≡ Some on → (content : Content)
+      → ((was : Content) → as_kind was ≡ Some on.value → still content ≡ still was)
       → Stays place old.objects (changed_at on.place (λ object. record object { content = content }) old.objects)
   alike as_kind name on found content same =
       let stands = named-Some as_kind name old on found in
@@ -231,12 +238,14 @@ module _ (place : ℕ) (old new : State) (caller : List ℕ) (reply : Reply) whe
   wish None p = absurd p
   wish (Some n) p = same p.1
 
-  decodes : (handle : ℕ) (target : Found VideoSurface) → named old as_video handle ≡ Some target → (picture : Picture) (o : Outcome) → Stays place old.objects (decoded old target picture o).objects
+  decodes : (handle : ℕ) (target : Found VideoSurface) → named old as_video handle ≡ Some target → (picture : Picture) (o : Outcome)
+      → Stays place old.objects (decoded old target picture o).objects
   decodes handle target found picture outcome.Ok = plain as_video no_video handle target found _
   decodes handle target found picture (outcome.Bitstream slice) = stays_same place old.objects
   decodes handle target found picture (outcome.Incomplete macroblocks) = stays_same place old.objects
 
-  counts : (handle : ℕ) (info : PictureInfo) (bytes : List ℕ) (on : Rendering) → named old as_video handle ≡ Some on.target → Counts old reply new caller info bytes on → Stays place old.objects new.objects
+  counts : (handle : ℕ) (info : PictureInfo) (bytes : List ℕ) (on : Rendering) → named old as_video handle ≡ Some on.target
+      → Counts old reply new caller info bytes on → Stays place old.objects new.objects
   counts handle info bytes on found p =
       goes (units_counted info (length p.payloads)) (λ nothing. Decodes old reply new caller info p.payloads on) (λ nothing h a. left _ (decodes handle on.target found a.picture a.outcome) a.after) p.goes
 

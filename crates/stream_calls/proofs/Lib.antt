@@ -1,7 +1,10 @@
+pub mod ComingOut
+pub mod DisplaySteps
 pub mod Holding
 pub mod ItemLists
 pub mod KeptNames
 pub mod KeptSteps
+pub mod LastItems
 pub mod LittleMade
 pub mod LiveNames
 pub mod NextItem
@@ -11,3 +14,6 @@ pub mod OthersFound
 pub mod OthersGo
 pub mod OthersLead
 pub mod OthersLeft
+pub mod PlayedSteps
+pub mod PromiseSteps
+pub mod RenderSteps

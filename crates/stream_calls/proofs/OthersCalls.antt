@@ -29,7 +29,8 @@ pub record IsMild (may_preempt : Bool) (old new : State) (reply : Reply) : Type 
 no_other : {A : Type 0} → (let b : Bool = false in b ≡ true) → A
 no_other e = absurd (let k : (let b : Bool = false in b ≡ true) = e in cc)
 
-device_left : (may_preempt : Bool) (content : Content) (on now : Device) → as_device content ≡ Some on → (may_preempt ≡ false → now.is_preempted ≡ on.is_preempted) → IsContentLeft may_preempt content (DeviceObject now)
+device_left : (may_preempt : Bool) (content : Content) (on now : Device) → as_device content ≡ Some on
+    → (may_preempt ≡ false → now.is_preempted ≡ on.is_preempted) → IsContentLeft may_preempt content (DeviceObject now)
 device_left may_preempt (DeviceObject of) on now e same = (now, refl, λ k. same k ∙ let w : of ≡ on = cc (e) in ap (λ (d : Device). d.is_preempted) (sym w))
 device_left may_preempt content on now e same = absurd (let k : (let o : Option Device = None in o ≡ Some on) = e in cc)
 
@@ -56,7 +57,9 @@ module _ (may_preempt : Bool) (old new : State) (caller : List ℕ) (reply : Rep
   wish_mild (Some found) p = same_mild (ap name_given p.0) p.1
 
   -- the device that a name finds has this now
-  device_mild : (handle : ℕ) (on : Found Device) (now : Device) → named old as_device handle ≡ Some on → (may_preempt ≡ false → now.is_preempted ≡ on.value.is_preempted) → AreLeft may_preempt old.objects (with_content old on.place (DeviceObject now)).objects
+  device_mild : (handle : ℕ) (on : Found Device) (now : Device) → named old as_device handle ≡ Some on
+      → (may_preempt ≡ false → now.is_preempted ≡ on.value.is_preempted)
+      → AreLeft may_preempt old.objects (with_content old on.place (DeviceObject now)).objects
   device_mild handle on now e same =
       let is = named-Some as_device handle old on e in
       all_changed may_preempt (λ object. record object { content = DeviceObject now }) on.place old.objects (λ a at.

@@ -35,16 +35,19 @@ module _ (may_preempt : Bool) where
   mixer_left (MixerObject of) b left value e = ap as_mixer left ∙ e
   mixer_left a b left value e = none_some value e
 
-  output_left : (a b : Content) → IsContentLeft may_preempt a b → (value : OutputSurface) → as_output a ≡ Some value → (flip : Option LastFlip) × (as_output b ≡ Some (record value { last_flip = flip }))
+  output_left : (a b : Content) → IsContentLeft may_preempt a b → (value : OutputSurface) → as_output a ≡ Some value
+      → (flip : Option LastFlip) × (as_output b ≡ Some (record value { last_flip = flip }))
   output_left (OutputObject of) b left value e = (left.0, ap as_output left.1 ∙ ap (option_map (λ (x : OutputSurface). record x { last_flip = left.0 })) e)
   output_left a b left value e = none_some value e
 
-  queue_left : (a b : Content) → IsContentLeft may_preempt a b → (value : PresentationQueue) → as_queue a ≡ Some value → (now : Queue ℕ) × (as_queue b ≡ Some (record value { queue = now })) × IsQueueLeft value.queue now
+  queue_left : (a b : Content) → IsContentLeft may_preempt a b → (value : PresentationQueue) → as_queue a ≡ Some value
+      → (now : Queue ℕ) × (as_queue b ≡ Some (record value { queue = now })) × IsQueueLeft value.queue now
   queue_left (QueueObject of) b left value e =
       (left.0, ap as_queue left.1 ∙ ap (option_map (λ (x : PresentationQueue). record x { queue = left.0 })) e, subst (λ (x : PresentationQueue). IsQueueLeft x.queue left.0) (some_same of value e) left.2)
   queue_left a b left value e = none_some value e
 
-  device_left : (a b : Content) → IsContentLeft may_preempt a b → (value : Device) → as_device a ≡ Some value → (now : Device) × (as_device b ≡ Some now) × (may_preempt ≡ false → now.is_preempted ≡ value.is_preempted)
+  device_left : (a b : Content) → IsContentLeft may_preempt a b → (value : Device) → as_device a ≡ Some value
+      → (now : Device) × (as_device b ≡ Some now) × (may_preempt ≡ false → now.is_preempted ≡ value.is_preempted)
   device_left (DeviceObject of) b left value e = (left.0, ap as_device left.1, λ k. left.2 k ∙ ap (λ (x : Device). x.is_preempted) (some_same of value e))
   device_left a b left value e = none_some value e
 
@@ -67,7 +70,8 @@ module _ (front others : List Item) (caller : List ℕ) (device : ℕ) (may_pree
       let r = others_leave_objects front others caller device may_preempt s t on.place is.0 state leads go is.1 own in
       record { was = is.0; now = r.0; is_named = is.2; stands = r.1; left = r.2 }
 
-  finds : {T : Type 0} (as_kind : Content → Option T) (on : Found T) → (b : Both as_kind on) → (value : T) → as_kind b.now.content ≡ Some value → named t as_kind name ≡ Some (record on { value = value })
+  finds : {T : Type 0} (as_kind : Content → Option T) (on : Found T) → (b : Both as_kind on) → (value : T) → as_kind b.now.content ≡ Some value
+      → named t as_kind name ≡ Some (record on { value = value })
   finds as_kind on b value kind =
       let apart = names_apart (front ++ others) t (leads_on empty_state s t front others state leads) in
       let p = place_of_name name t.objects apart in

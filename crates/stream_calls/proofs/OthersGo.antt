@@ -26,7 +26,8 @@ module _ (caller : List ℕ) (may_preempt : Bool) (names more : List ℕ) where
       (ap (λ b. not (same caller entry.caller) && (b && not (is_players may_preempt entry.call))) (sym (list_any-append test names more)) ∙ none)
   fewer (Ended mark) none = refl
 
-  all_fewer : (items : List Item) → list_any (is_strangers caller may_preempt (names ++ more)) items ≡ false → list_any (is_strangers caller may_preempt names) items ≡ false
+  all_fewer : (items : List Item) → list_any (is_strangers caller may_preempt (names ++ more)) items ≡ false
+      → list_any (is_strangers caller may_preempt names) items ≡ false
   all_fewer [] none = refl
   all_fewer (item ∷ later) none =
       let parts = or_parts (is_strangers caller may_preempt (names ++ more) item) (list_any (is_strangers caller may_preempt (names ++ more)) later) none in

@@ -38,7 +38,8 @@ use Rattle.stream_calls.proofs.OthersLeft.{AreLeft, left_back, left_get, left_sa
 -- ---- names
 
 -- what is first of a call isn't among the names
-not_first : (call : Call) (names : List ℕ) (name : ℕ) → list_any (λ own. is_first own call) names ≡ false → is_among names name ≡ true → is_first name call ≡ true → ⊥
+not_first : (call : Call) (names : List ℕ) (name : ℕ) → list_any (λ own. is_first own call) names ≡ false → is_among names name ≡ true
+    → is_first name call ≡ true → ⊥
 not_first call [] name none among first = false≢true among
 not_first call (own ∷ names) name none among first =
     let parts = or_parts (is_first own call) (list_any (λ o. is_first o call) names) none in
@@ -63,7 +64,8 @@ module _ (caller : List ℕ) (may_preempt : Bool) (names : List ℕ) where
   AreMild [] = Unit {0}
   AreMild (item ∷ later) = IsMildItem item × AreMild later
 
-  mild_call : (asked : Call) (own : Bool) → own ≡ false → (not own && (list_any (λ name. is_first name asked) names && not (is_players may_preempt asked))) ≡ false → IsMildCall asked
+  mild_call : (asked : Call) (own : Bool) → own ≡ false
+      → (not own && (list_any (λ name. is_first name asked) names && not (is_players may_preempt asked))) ≡ false → IsMildCall asked
   mild_call asked true is none = absurd (false≢true (sym is))
   mild_call asked false is none = by_tests (list_any (λ name. is_first name asked) names) (is_players may_preempt asked) refl refl none where
     by_tests : (a b : Bool) → list_any (λ name. is_first name asked) names ≡ a → is_players may_preempt asked ≡ b → (a && not b) ≡ false → IsMildCall asked
@@ -80,7 +82,8 @@ module _ (caller : List ℕ) (may_preempt : Bool) (names : List ℕ) where
 
   not_own : (item : Item) (later : List Item) → own (item ∷ later) ≡ [] → (same caller (caller_of item) ≡ false) × (own later ≡ [])
   not_own item later none = by_test (same caller (caller_of item)) refl none where
-    by_test : (b : Bool) → same caller (caller_of item) ≡ b → (if b then item ∷ own later else own later) ≡ [] → (same caller (caller_of item) ≡ false) × (own later ≡ [])
+    by_test : (b : Bool) → same caller (caller_of item) ≡ b → (if b then item ∷ own later else own later) ≡ []
+        → (same caller (caller_of item) ≡ false) × (own later ≡ [])
     by_test true e k = absurd (let z : (let l : List Item = [] in item ∷ own later ≡ l) = k in cc)
     by_test false e k = (e, k)
 
@@ -95,8 +98,10 @@ module _ (caller : List ℕ) (may_preempt : Bool) (names : List ℕ) where
 
 -- The objects of the device are left, none is new, and no job begins on one.
 pub record IsSteady (may_preempt : Bool) (on : ℕ) (old new : State) : Type 0 where
-  pub left : (place : ℕ) (a : Object) → slice_get old.objects place ≡ Some a → a.device ≡ on → (b : Object) × (slice_get new.objects place ≡ Some b) × IsLeft may_preempt a b
-  pub back : (place : ℕ) (b : Object) → slice_get new.objects place ≡ Some b → b.device ≡ on → (a : Object) × (slice_get old.objects place ≡ Some a) × (a.device ≡ on)
+  pub left : (place : ℕ) (a : Object) → slice_get old.objects place ≡ Some a → a.device ≡ on
+      → (b : Object) × (slice_get new.objects place ≡ Some b) × IsLeft may_preempt a b
+  pub back : (place : ℕ) (b : Object) → slice_get new.objects place ≡ Some b → b.device ≡ on
+      → (a : Object) × (slice_get old.objects place ≡ Some a) × (a.device ≡ on)
   pub home : (place : ℕ) (a : Object) → slice_get old.objects place ≡ Some a → a.device ≡ on → is_out old place ≡ false → is_out new place ≡ false
 
 module _ (may_preempt : Bool) (on : ℕ) where
@@ -143,7 +148,8 @@ module _ (may_preempt : Bool) (on : ℕ) where
           home = λ place a e of home. by_notes apart place a e of home p.notes;
         }
       where
-        by_notes : p.device ≢ on → (place : ℕ) (a : Object) → slice_get old.objects place ≡ Some a → a.device ≡ on → is_out old place ≡ false → (new.notes ≡ old.notes) ⊎ IsNoted old new caller p.device → is_out new place ≡ false
+        by_notes : p.device ≢ on → (place : ℕ) (a : Object) → slice_get old.objects place ≡ Some a → a.device ≡ on → is_out old place ≡ false
+            → (new.notes ≡ old.notes) ⊎ IsNoted old new caller p.device → is_out new place ≡ false
         by_notes apart place a e of home (inl same) = ap (λ (l : List Note). list_any (λ note. note.target == place) l) same ∙ home
         by_notes apart place a e of home (inr noted) =
             let elsewhere_target : (noted.target == place) ≡ false =
@@ -189,7 +195,8 @@ module _ (may_preempt : Bool) (on : ℕ) where
   }
 
   -- an end
-  fewer_out : (test : Note → Bool) (place : ℕ) (notes : List Note) → list_any (λ note. note.target == place) notes ≡ false → list_any (λ note. note.target == place) (filter test notes) ≡ false
+  fewer_out : (test : Note → Bool) (place : ℕ) (notes : List Note) → list_any (λ note. note.target == place) notes ≡ false
+      → list_any (λ note. note.target == place) (filter test notes) ≡ false
   fewer_out test place [] home = refl
   fewer_out test place (note ∷ later) home =
       let parts = or_parts (note.target == place) (list_any (λ other. other.target == place) later) home in
@@ -217,14 +224,16 @@ module _ (may_preempt : Bool) (on : ℕ) where
         let among : is_among names a.name ≡ true = ap (is_among names) (sym r.2) ∙ (are place r.0 r.1 ∙ eq-eqb r.0.device on (r.3 ∙ is)) in
         not_first asked names a.name none among first
 
-    steady_call : (s t : State) (who : List ℕ) (asked : Call) (reply : Reply) → IsSane s → Extends s final → (root : Object) → slice_get s.objects on ≡ Some root → Step s who asked reply t → IsMildCall caller may_preempt names asked → Steady s t
+    steady_call : (s t : State) (who : List ℕ) (asked : Call) (reply : Reply) → IsSane s → Extends s final → (root : Object)
+        → slice_get s.objects on ≡ Some root → Step s who asked reply t → IsMildCall caller may_preempt names asked → Steady s t
     steady_call s t who asked reply sane extends root stands step (inl none) =
         steady_elsewhere s t who asked reply sane root stands (is_elsewhere s extends asked none) (step_effect s t who reply sane.rooted sane.sound asked step)
     steady_call s t who asked reply sane extends root stands step (inr is) =
         let mild = players_mild may_preempt s t who reply asked is step in
         steady_left s t mild.objects mild.notes
 
-    steady_item : (s t : State) (item : Item) → IsSane s → Extends s final → (root : Object) → slice_get s.objects on ≡ Some root → Happens s item t → IsMildItem caller may_preempt names item → Steady s t
+    steady_item : (s t : State) (item : Item) → IsSane s → Extends s final → (root : Object) → slice_get s.objects on ≡ Some root → Happens s item t
+        → IsMildItem caller may_preempt names item → Steady s t
     steady_item s t (Called entry) sane extends root stands h mild =
         steady_then s h.0 t (steady_call s h.0 entry.caller entry.call entry.reply sane extends root stands h.1 mild)
         (steady_same h.0 t (ap (λ (u : State). u.objects) h.2) (ap (λ (u : State). u.notes) h.2))
@@ -232,7 +241,8 @@ module _ (may_preempt : Bool) (on : ℕ) where
         let ended : State = without_note s mark.caller mark.place in
         steady_then s ended t (steady_ended s mark.caller mark.place) (steady_same ended t (ap (λ (u : State). u.objects) h.1) (ap (λ (u : State). u.notes) h.1))
 
-    steady_all : (s : State) (items : List Item) → IsSane s → (root : Object) → slice_get s.objects on ≡ Some root → Leads s items final → AreMild caller may_preempt names items → Steady s final
+    steady_all : (s : State) (items : List Item) → IsSane s → (root : Object) → slice_get s.objects on ≡ Some root → Leads s items final
+        → AreMild caller may_preempt names items → Steady s final
     unfolding Leads
     steady_all s [] sane root stands leads mild = steady_same s final (ap (λ (u : State). u.objects) leads) (ap (λ (u : State). u.notes) leads)
     steady_all s (item ∷ later) sane root stands leads mild =
@@ -245,13 +255,15 @@ module _ (may_preempt : Bool) (on : ℕ) where
 
 -- ---- no names
 
-no_names : (caller : List ℕ) (device : ℕ) (may_preempt : Bool) (names : List ℕ) (s t : State) (items : List Item) → Leads s items t → AreMild caller may_preempt (device ∷ names) items → filter_map (made_on device) items ≡ []
+no_names : (caller : List ℕ) (device : ℕ) (may_preempt : Bool) (names : List ℕ) (s t : State) (items : List Item) → Leads s items t
+    → AreMild caller may_preempt (device ∷ names) items → filter_map (made_on device) items ≡ []
 unfolding Leads
 no_names caller device may_preempt names s t [] leads mild = refl
 no_names caller device may_preempt names s t (Called entry ∷ later) leads mild =
     ap (λ (o : Option ℕ). cons_option o (filter_map (made_on device) later)) (by_first (is_first device entry.call) refl mild.0) ∙ no_names caller device may_preempt names leads.0 t later leads.2 mild.1
   where
-    by_first : (b : Bool) → is_first device entry.call ≡ b → IsMildCall caller may_preempt (device ∷ names) entry.call → (if b then name_given entry.reply else None) ≡ None
+    by_first : (b : Bool) → is_first device entry.call ≡ b → IsMildCall caller may_preempt (device ∷ names) entry.call
+        → (if b then name_given entry.reply else None) ≡ None
     by_first false e is = refl
     by_first true e (inl none) = absurd (false≢true (sym (or_parts (is_first device entry.call) (list_any (λ name. is_first name entry.call) names) none).0 ∙ e))
     by_first true e (inr is) = (players_mild may_preempt s leads.1.0 entry.caller entry.reply entry.call is leads.1.1).gives
@@ -272,7 +284,8 @@ pub record Known (front others : List Item) (device : ℕ) (may_preempt : Bool) 
   pub steady : IsSteady may_preempt on s t
   pub sane : IsSane t
 
-known : (front others : List Item) (caller : List ℕ) (device : ℕ) (may_preempt : Bool) (s t : State) (place : ℕ) (object : Object) → IsStateOf front s → Leads s others t → OthersGoOn front others caller device may_preempt → slice_get s.objects place ≡ Some object
+known : (front others : List Item) (caller : List ℕ) (device : ℕ) (may_preempt : Bool) (s t : State) (place : ℕ) (object : Object) → IsStateOf front s
+    → Leads s others t → OthersGoOn front others caller device may_preempt → slice_get s.objects place ≡ Some object
     → is_among (names_of front device) object.name ≡ true → Known front others device may_preempt s t object
 known front others caller device may_preempt s t place object state leads go e among =
     let names = names_of (front ++ others) device in
@@ -321,7 +334,8 @@ queue_object (object ∷ later) k queue e = by_value (λ j at. queue_object late
   by_value behind (Some one) is (suc j) at = after (behind j at)
 
 -- and the other way round
-object_queue : (objects : List Object) (place : ℕ) (object : Object) (queue : Queue ℕ) → slice_get objects place ≡ Some object → queue_in object ≡ Some queue → (k : ℕ) × (slice_get (filter_map queue_in objects) k ≡ Some queue)
+object_queue : (objects : List Object) (place : ℕ) (object : Object) (queue : Queue ℕ) → slice_get objects place ≡ Some object → queue_in object ≡ Some queue
+    → (k : ℕ) × (slice_get (filter_map queue_in objects) k ≡ Some queue)
 object_queue [] place object queue e is = absurd (let z : (let o : Option Object = None in o ≡ Some object) = e in cc)
 object_queue (first ∷ later) zero object queue e is =
     (zero, ap (λ (o : Option (Queue ℕ)). slice_get (cons_option o (filter_map queue_in later)) 0) (ap queue_in (object_is first object e) ∙ is))
@@ -329,12 +343,14 @@ object_queue (first ∷ later) (suc place) object queue e is =
     let r = object_queue later place object queue e is in
     by_value (queue_in first) r
   where
-    by_value : (o : Option (Queue ℕ)) → (k : ℕ) × (slice_get (filter_map queue_in later) k ≡ Some queue) → (k : ℕ) × (slice_get (cons_option o (filter_map queue_in later)) k ≡ Some queue)
+    by_value : (o : Option (Queue ℕ)) → (k : ℕ) × (slice_get (filter_map queue_in later) k ≡ Some queue)
+        → (k : ℕ) × (slice_get (cons_option o (filter_map queue_in later)) k ≡ Some queue)
     by_value None r = r
     by_value (Some one) r = (suc r.0, r.1)
 
 -- what a queue shows after its entries is of one of these, or what it showed
-last_is : (shown : List (Queued ℕ)) (visible : Option ℕ) (place : ℕ) → shown_last shown visible ≡ Some place → Contains (map (λ entry. entry.surface) shown) place ⊎ (visible ≡ Some place)
+last_is : (shown : List (Queued ℕ)) (visible : Option ℕ) (place : ℕ) → shown_last shown visible ≡ Some place
+    → Contains (map (λ entry. entry.surface) shown) place ⊎ (visible ≡ Some place)
 unfolding shown_last
 last_is [] visible place e = inr e
 last_is (entry ∷ later) visible place e = elim (last_is later (Some entry.surface) place e) [
@@ -360,7 +376,8 @@ names_back old new place left names = by_name names where
 abbrev queue_of : Content → Option (Queue ℕ)
 queue_of content = option_map (λ (of : PresentationQueue). of.queue) (as_queue content)
 
-queue_back : (may_preempt : Bool) (old new : Content) → IsContentLeft may_preempt old new → (now : Queue ℕ) → queue_of new ≡ Some now → (was : Queue ℕ) × (queue_of old ≡ Some was) × IsQueueLeft was now
+queue_back : (may_preempt : Bool) (old new : Content) → IsContentLeft may_preempt old new → (now : Queue ℕ) → queue_of new ≡ Some now
+    → (was : Queue ℕ) × (queue_of old ≡ Some was) × IsQueueLeft was now
 queue_back may_preempt old new left now e = by_content old left where
   none : {A : Type 0} (content : Content) → queue_of content ≡ None → new ≡ content → A
   none content plain is = absurd (let k : (let o : Option (Queue ℕ) = None in o ≡ Some now) = sym plain ∙ (sym (ap queue_of is) ∙ e) in cc)
@@ -376,10 +393,12 @@ queue_back may_preempt old new left now e = by_content old left where
   by_content (DecoderObject of) l = none (DecoderObject of) refl l
   by_content (MixerObject of) l = none (MixerObject of) refl l
 
-same_device : (objects : List Object) (place : ℕ) (one other : Object) → slice_get objects place ≡ Some one → slice_get objects place ≡ Some other → one.device ≡ other.device
+same_device : (objects : List Object) (place : ℕ) (one other : Object) → slice_get objects place ≡ Some one → slice_get objects place ≡ Some other
+    → one.device ≡ other.device
 same_device objects place one other a b = ap (λ (o : Object). o.device) (object_is one other (sym a ∙ b))
 
-left_at : (may_preempt : Bool) (objects : List Object) (place : ℕ) (was one other : Object) → slice_get objects place ≡ Some one → slice_get objects place ≡ Some other
+left_at : (may_preempt : Bool) (objects : List Object) (place : ℕ) (was one other : Object) → slice_get objects place ≡ Some one
+    → slice_get objects place ≡ Some other
     → IsLeft may_preempt was one → IsLeft may_preempt was other
 left_at may_preempt objects place was one other a b = subst (IsLeft may_preempt was) (object_is one other (sym a ∙ b))
 
@@ -388,7 +407,8 @@ module _ (may_preempt : Bool) (on : ℕ) (s t : State) (steady : IsSteady may_pr
   IsSound : Object → Option (Queue ℕ) → Type 0
   IsSound holder o = MatchOption o (Unit {0}) (IsSoundQueue t.objects holder.device holder.is_live)
 
-  on_device : (at : ℕ) (holder : Object) (queue : Queue ℕ) → slice_get t.objects at ≡ Some holder → queue_in holder ≡ Some queue → Names queue place → holder.device ≡ on
+  on_device : (at : ℕ) (holder : Object) (queue : Queue ℕ) → slice_get t.objects at ≡ Some holder → queue_in holder ≡ Some queue → Names queue place
+      → holder.device ≡ on
   unfolding IsSound
   on_device at holder queue there is names =
       let sound : IsSoundQueue t.objects holder.device holder.is_live queue = subst (IsSound holder) is (sane.sound at holder there) in

@@ -104,13 +104,15 @@ module _ (may_preempt : Bool) where
   all_same [] = tt
   all_same (a ∷ later) = (left_same a, all_same later)
 
-  pub left_get : (old new : List Object) → AreLeft old new → (place : ℕ) (a : Object) → slice_get old place ≡ Some a → (b : Object) × (slice_get new place ≡ Some b) × IsLeft may_preempt a b
+  pub left_get : (old new : List Object) → AreLeft old new → (place : ℕ) (a : Object) → slice_get old place ≡ Some a
+      → (b : Object) × (slice_get new place ≡ Some b) × IsLeft may_preempt a b
   left_get [] new are place a e = nothing_there a e
   left_get (x ∷ xs) [] are place a e = absurd are
   left_get (x ∷ xs) (y ∷ ys) are zero a e = (y, refl, subst (λ (o : Object). IsLeft may_preempt o y) (object_is x a e) are.0)
   left_get (x ∷ xs) (y ∷ ys) are (suc place) a e = left_get xs ys are.1 place a e
 
-  pub left_back : (old new : List Object) → AreLeft old new → (place : ℕ) (b : Object) → slice_get new place ≡ Some b → (a : Object) × (slice_get old place ≡ Some a) × IsLeft may_preempt a b
+  pub left_back : (old new : List Object) → AreLeft old new → (place : ℕ) (b : Object) → slice_get new place ≡ Some b
+      → (a : Object) × (slice_get old place ≡ Some a) × IsLeft may_preempt a b
   left_back old [] are place b e = nothing_there b e
   left_back [] (y ∷ ys) are place b e = absurd are
   left_back (x ∷ xs) (y ∷ ys) are zero b e = (x, refl, subst (λ (o : Object). IsLeft may_preempt x o) (object_is y b e) are.0)
@@ -124,7 +126,8 @@ module _ (may_preempt : Bool) where
   all_then (x ∷ xs) (y ∷ ys) (z ∷ zs) one two = (left_then x y z one.0 two.0, all_then xs ys zs one.1 two.1)
 
   -- one object is changed
-  pub all_changed : (change : Object → Object) (place : ℕ) (objects : List Object) → ((a : Object) → slice_get objects place ≡ Some a → IsLeft may_preempt a (change a)) → AreLeft objects (changed_at place change objects)
+  pub all_changed : (change : Object → Object) (place : ℕ) (objects : List Object)
+      → ((a : Object) → slice_get objects place ≡ Some a → IsLeft may_preempt a (change a)) → AreLeft objects (changed_at place change objects)
   unfolding changed_at
   all_changed change place [] is = tt
   all_changed change zero (a ∷ later) is = (is a refl, all_same later)

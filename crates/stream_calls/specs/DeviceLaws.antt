@@ -72,8 +72,8 @@ StreamsMakeLittle =
 abbrev device_5 : Item
 device_5 = Called (record { caller = []; call = call.DeviceCreate; reply = Ok (Name 5) })
 
--- A name that is given is held, and one whose object was destroyed isn't; a refused call leaves them. Who has nothing may make a device,
--- and then no other.
+-- A name that is given is held, and one whose object was destroyed isn't; a refused call leaves them.
+-- Who has nothing may make a device, and then no other.
 pub record HeldNamesAreWorked : Type 0 where
   pub given : held_behind (5 ∷ []) (call.VideoCreate 5 0 16 16) (Ok (Name 8)) ≡ 5 ∷ 8 ∷ []
   pub lacking : held_behind (5 ∷ []) (call.VideoCreate 5 0 16 16) (Err OutOfMemory) ≡ 5 ∷ []

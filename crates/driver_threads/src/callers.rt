@@ -1,5 +1,6 @@
 // Two callers whose passes are split from one.
-ghost use Rattle.driver.specs.Passes.{IsOf};
+ghost use Rattle.driver.specs.Passes.{IsOf, view};
+ghost use Rattle.driver_model.specs.Passes.{AreAtRest};
 
 use crate::fault::Fault;
 use driver::{Driver, Pass};
@@ -7,17 +8,22 @@ use std::alloc::Global;
 use std::sync::Wait;
 use std::thread::{Threads, join};
 
-/// Which places the calls of two callers have, with so many calls each.
+/// Which places the calls of two callers have, with so many calls each: behind one call that was made before their
+/// passes were split, and before one that is made with both joined.
 pub fn told<R: Threads + Wait + Sync>(rt: &R, alloc: Global, calls: u32) -> Result<String, Fault> {
     let (driver, pass) = Driver::new(alloc)?;
-    let mut places = call_by_two(rt, alloc, &driver, pass, calls).ok_or(Fault::Places)?;
+    let before = driver.kept(rt, pass);
+    let first = before.place.saturating_add(1);
+    let (pass, places) = call_by_two(rt, alloc, &driver, before.pass, calls);
+    let mut places = places.ok_or(Fault::Places)?;
     places.sort()?;
     let count = places.len();
-    let is_each = places
-        .iter()
-        .enumerate()
-        .all(|(place, found)| *found == place as u64);
-    Ok(format!(in alloc; "{count} places, from 0 on each once: {is_each}")?)
+    let is_each = places.iter().enumerate().all(|(index, found)| *found
+        == first.saturating_add(index as u64));
+    let then = driver.kept(rt, pass).place;
+    Ok(format!(in alloc;
+        "{count} places, from {first} on each once: {is_each}; joined, then {then}"
+    )?)
 }
 
 // Makes a device and a queue, and reads the queue's time until it has made so many calls. Answers their places, unless a
@@ -29,8 +35,8 @@ fn call_often<R: Wait>(
     pass: Pass,
     calls: u32,
 ) -> (Pass, Option<Vec<u64>>)
-    requires { IsOf pass driver.now }
-    ensures { IsOf result.0 driver.now }
+    requires { IsOf pass driver.now × AreAtRest (view pass).own }
+    ensures { IsOf result.0 driver.now × AreAtRest (view result.0).own }
 {
     let mut places = Vec::new(alloc);
     let made = driver.device_create(rt, alloc, pass);
@@ -66,27 +72,28 @@ fn together(a: Option<Vec<u64>>, b: Option<Vec<u64>>) -> Option<Vec<u64>> {
     Some(all)
 }
 
-// Two threads make so many calls each, with passes split from one.
+// Two threads make so many calls each, with passes split from one, which are joined then.
 fn call_by_two<R: Threads + Wait + Sync>(
     rt: &R,
     alloc: Global,
     driver: &Driver,
     pass: Pass,
     calls: u32,
-) -> Option<Vec<u64>>
-    requires { IsOf pass driver.now }
+) -> (Pass, Option<Vec<u64>>)
+    requires { IsOf pass driver.now × AreAtRest (view pass).own }
+    ensures { IsOf result.0 driver.now }
 {
     let (a, b) = driver.split(pass);
     let (a, b) = join(
         rt,
         || -> (Pass, Option<Vec<u64>>)
-            requires { IsOf a driver.now }
-            ensures { IsOf result.0 driver.entry.now }
+            requires { IsOf a driver.now × AreAtRest (view a).own }
+            ensures { IsOf result.0 driver.entry.now × AreAtRest (view result.0).own }
         { call_often(rt, alloc, driver, a, calls) },
         || -> (Pass, Option<Vec<u64>>)
-            requires { IsOf b driver.now }
-            ensures { IsOf result.0 driver.entry.now }
+            requires { IsOf b driver.now × AreAtRest (view b).own }
+            ensures { IsOf result.0 driver.entry.now × AreAtRest (view result.0).own }
         { call_often(rt, alloc, driver, b, calls) },
     );
-    together(a.1, b.1)
+    (driver.join(a.0, b.0), together(a.1, b.1))
 }

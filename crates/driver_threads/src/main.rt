@@ -4,7 +4,8 @@
 //!     render PLACE DEED, mix PLACE DEED   one thread begins the job and is held in it at this place, 0 before the work
 //!                                         or 1 behind it, while the other does the deed; then it is let go and ends.
 //!                                         What is told: the deed's answers, the end's, and the target's bytes then
-//!     two CALLS                           two threads make so many calls each: which places these have
+//!     two CALLS                           two threads make so many calls each, with passes split from one behind its
+//!                                         first call: which places these have, and which one the joined pass calls at
 //!     wait                                one thread waits until a surface is idle, the other ticks
 //!     refused WORD                        the answer of a call that is refused (refusals.rt)
 //!

@@ -1,0 +1,13 @@
+pub mod Added
+pub mod Arrays
+pub mod Drawing
+pub mod GivenBlocks
+pub mod GivenHeaders
+pub mod GivenKinds
+pub mod GivenMacroblocks
+pub mod Giving
+pub mod MadeInfo
+pub mod Puts
+pub mod Small
+pub mod Units
+pub mod WrittenUnits

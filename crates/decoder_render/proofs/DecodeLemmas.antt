@@ -1,5 +1,6 @@
 -- What the slices of a picture come to.
-use Rattle.std.proofs.Common.{◌≡◌, ℕ, ◌-◌, ◌<◌, ◌≤◌, List, length, take, Option, refl, sym, ap, ◌∙◌, subst, arith}
+use Rattle.std.proofs.Common.{◌≡◌, ℕ, ◌-◌, ◌<◌, ◌≤◌, List, [], length, take, Option, inl, inr, refl, sym, ap, ◌∙◌, subst, arith}
+use Rattle.std.proofs.lemmas.Bool.{cases_lt}
 use Rattle.std.proofs.lemmas.List.{length-take-le, take_all}
 use Rattle.cb_types.specs.SizeMbs.{macroblocks}
 use Rattle.cb_types.specs.declared.mark.MbMark.{MbMark}
@@ -10,10 +11,13 @@ use Rattle.vd_plane.specs.Picture.{HasSize}
 use Rattle.vd_plane.specs.Tiles.{ShowsTiles}
 use Rattle.vd_plane.specs.declared.picture.Picture.{Picture}
 use Rattle.vd_plane.specs.declared.tile.Tile.{Tile}
+use Rattle.decoder_render.specs.Constructed.{covering}
 use Rattle.decoder_render.specs.Coverage.{AreAccepted, given}
-use Rattle.decoder_render.specs.Outcomes.{IsFault, IsWhole, Lacks}
+use Rattle.decoder_render.specs.Outcomes.{IsDecoded, IsFault, IsOutcome, IsWhole, Lacks}
 use Rattle.decoder_render.specs.Parsed.{IsUnparsed, covered_by, first_header, start_of}
 use Rattle.decoder_render.specs.Submission.{payload_at}
+use Rattle.decoder_render.specs.declared.outcome.Outcome.{Outcome}
+use Rattle.decoder_render.specs.declared.outcome.Outcome.TheVariants as outcomes
 use Rattle.decoder_render.specs.declared.parsing.ParsedSlice.{ParsedSlice}
 use Rattle.decoder_render.proofs.CoverLemmas.{unparsed_refused}
 
@@ -60,3 +64,28 @@ module _ (info : PictureInfo) (size : SizeMbs) (pictures : List (Option Picture)
             cr = cr ∙ ap (λ (m : List MbMark). deblocked_chroma info.chroma_qp_index_offset size m made.cr) (sym same_marks);
           };
         }
+
+    -- what the work behind the construction answers is the outcome
+    pub finished_outcome : (outcome : Outcome) (picture : Picture) (covered : ℕ) → covered ≡ start_of slices count → count ≤ length units
+        → (count < length units → outcome ≡ outcomes.Bitstream count)
+        → (count ≡ length units → covered < macroblocks size → outcome ≡ outcomes.Incomplete (macroblocks size - covered))
+        → (count ≡ length units → covered ≡ macroblocks size → outcome ≡ outcomes.Ok)
+        → (count ≡ length units → covered ≡ macroblocks size → IsDecoded (given info size []) (covering marks tiles) picture)
+        → (count < length units → IsUnparsed info size (first_header slices count) covered (payload_at units count))
+        → IsOutcome (given info size pictures) units outcome picture
+    finished_outcome outcome picture covered is within unread lacking whole decoded none =
+        let P : Outcome → Type 0 = λ o. IsOutcome (given info size pictures) units o picture in
+        elim (cases_lt count (length units)) [
+          | inl less ↦
+              let unparsed = subst (λ (k : ℕ). IsUnparsed info size (first_header slices count) k (payload_at units count)) is (none less) in
+              subst P (sym (unread less)) (unit_fails less unparsed)
+          | inr le ↦
+              let all : count ≡ length units = omega (arith, le, within) in
+              elim (cases_lt covered (macroblocks size)) [
+                | inl less ↦ subst P (sym (lacking all less)) (some_lack (macroblocks size - covered) all (omega (arith, less)) (omega (arith, is)))
+                | inr more ↦
+                    let full : covered ≡ macroblocks size = omega (arith, more, is, inside) in
+                    let d = decoded all full in
+                    subst P (sym (whole all full)) (all_there all (sym is ∙ full) d.constructed picture d.size d.shows d.y d.cb d.cr)
+              ]
+        ]

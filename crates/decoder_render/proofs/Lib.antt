@@ -11,6 +11,8 @@ pub mod CoverLemmas
 pub mod SliceRanges
 pub mod ConstructedLemmas
 pub mod StepLemmas
+pub mod HalvesLemmas
+pub mod AtOnceLemmas
 pub mod SubmissionPayloads
 pub mod DecodeLemmas
 pub mod MemoryLemmas

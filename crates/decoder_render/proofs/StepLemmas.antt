@@ -22,7 +22,7 @@ use Rattle.decoder_render.specs.declared.parsing.ParsedSlice.{ParsedSlice}
 use Rattle.decoder_render.proofs.CoverLemmas.{covered_same, is_refused, kept_front, one_more}
 use Rattle.decoder_render.proofs.SliceRanges.{IsInside, marks_more, parsed_inside, parsed_slice, whole_more}
 
-part_whole : (marks : List MbMark) (tiles : List Tile) (first count end : ℕ) → first + count ≤ end → AreWhole marks tiles end → AreWhole (take count (drop first marks)) (take count (drop first tiles)) count
+pub part_whole : (marks : List MbMark) (tiles : List Tile) (first count end : ℕ) → first + count ≤ end → AreWhole marks tiles end → AreWhole (take count (drop first marks)) (take count (drop first tiles)) count
 part_whole marks tiles first count end room whole = record {
   of_marks = λ k lt. subst IsWholeMark (sym (get_or-take count (drop first marks) k no_mark lt ∙ get_or-drop first marks k no_mark)) (whole.of_marks (first + k) (omega (arith, lt, room)));
   of_tiles = λ k lt. subst IsWholeTile (sym (get_or-take count (drop first tiles) k _ lt ∙ get_or-drop first tiles k _)) (whole.of_tiles (first + k) (omega (arith, lt, room)));

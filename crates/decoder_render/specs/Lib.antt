@@ -4,6 +4,7 @@ pub mod Coverage
 pub mod Outcomes
 pub mod Parsed
 pub mod Constructed
+pub mod Halves
 pub mod Memory
 pub mod Prepared
 pub mod Renamed

@@ -4,6 +4,7 @@
 mod construction;
 mod decoding;
 mod fitting;
+mod halves;
 mod laws;
 mod outcome;
 mod parsing;

@@ -2,13 +2,15 @@
 ghost use Rattle.decoder_render.specs.Memory.{IsMemoryFor};
 ghost use Rattle.std.specs.Prelude.{length};
 
-use super::decoding::decode_units;
+use super::decoding::{decode_units, decode_units_at_once};
 use super::outcome::Outcome;
 use super::parsing::{NO_SLICE, ParsedSlice};
 use super::submission::payloads;
 use cb_types::{Macroblock, MbMark, PictureInfo, SizeMbs, Vector};
 use recon::Refs;
 use std::alloc::{AllocError, Global};
+use std::thread::Threads;
+use vd_outside::Gate;
 use vd_plane::{Picture, Tile};
 
 /// The slice units of one picture, with all memory that their decoding takes.
@@ -82,6 +84,36 @@ impl Prepared {
             self.units.as_slice(),
             &mut self.slices,
             &mut self.macroblocks,
+            &mut self.marks,
+            &mut self.tiles,
+            &mut self.picture,
+        )
+    }
+
+    /// Decodes the picture. All slices are read first, in their order; then their list is halved again and again, and
+    /// both halves are constructed beside each other. Slice i passes gate i before it is constructed, where there is
+    /// one, with i. Where no thread can be started, this one does the work. It takes no memory and no lock.
+    pub fn decode_gated<R: Threads + Sync, G: Gate + Send>(
+        &mut self,
+        rt: &R,
+        info: &PictureInfo,
+        refs: &Refs,
+        gates: &mut [G],
+    ) -> Outcome
+        requires info { IsAcceptedBySome info.now }
+        ensures outcome { IsOutcome (given info.now (size_of self.old) (pictures_of refs.now)) (units_of self.old) result (picture_of self.new) }
+        ensures units { units_of self.new ≡ units_of self.old }
+        ensures size { size_of self.new ≡ size_of self.old }
+    {
+        decode_units_at_once(
+            rt,
+            info,
+            refs,
+            self.size,
+            self.units.as_slice(),
+            &mut self.slices,
+            &mut self.macroblocks,
+            gates,
             &mut self.marks,
             &mut self.tiles,
             &mut self.picture,

@@ -22,6 +22,11 @@ done_pass done = done.pass
 abbrev pub done_place : RenderDone → ℕ
 done_place done = done.place
 
+-- What was run hands on the job's pass, and the place of its beginning, as they were.
+pub record HandsOn (job : RenderJob) (done : RenderDone) : Type 0 where
+  pub pass : done_pass done ≡ pass_of job
+  pub place : done_place done ≡ place_of job
+
 -- What the call answers that begins a render of these bytes. Where it is refused, they come back.
 abbrev pub IsBeginRender : Pass → Call → List ℕ → BeginRender → Type 0
 IsBeginRender before call bytes (Job job) = Begins before call (pass_of job) (place_of job)

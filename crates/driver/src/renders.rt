@@ -8,6 +8,7 @@ use driver_core::{CoreAnswer, CoreBegin, CoreRender, CoreRenderDone, count_units
 use std::alloc::Global;
 use std::marker::Brand;
 use std::sync::Wait;
+use std::thread::Threads;
 use submission::Submission;
 use vd_outside::Gate;
 use vd_status::Refusal;
@@ -45,18 +46,28 @@ pub struct RenderDone {
 }
 
 impl RenderJob {
-    ghost use Rattle.std.specs.Prelude.{◌≡◌};
-    ghost use Rattle.driver.specs.Renders.{done_pass, done_place, pass_of, place_of};
+    ghost use Rattle.driver.specs.Renders.{HandsOn};
 
     /// Decodes the picture. The job passes the gate at place 0 before its work, and at place 1 behind it. It takes no
     /// lock and waits for nobody.
     pub fn run<G: Gate>(self, gate: &mut G) -> RenderDone
-        ensures pass { done_pass result ≡ pass_of self }
-        ensures place { done_place result ≡ place_of self }
+        ensures { HandsOn self result }
     {
         let RenderJob { pass, place, job } = self;
         gate.pass(0);
         let done = job.run();
+        gate.pass(1);
+        RenderDone { pass, place, done }
+    }
+
+    /// Decodes the picture as `run` does, and constructs its slices beside each other, as far as threads can be
+    /// started. It takes no lock, and waits for no threads but those that it starts.
+    pub fn run_at_once<R: Threads + Sync, G: Gate>(self, rt: &R, gate: &mut G) -> RenderDone
+        ensures { HandsOn self result }
+    {
+        let RenderJob { pass, place, job } = self;
+        gate.pass(0);
+        let done = job.run_at_once(rt);
         gate.pass(1);
         RenderDone { pass, place, done }
     }

@@ -7,6 +7,8 @@ ghost use Rattle.driver_jobs.specs.Ready.{IsReady};
 use cb_types::{PictureInfo, SizeMbs};
 use decoder_render::{Outcome, Prepared};
 use recon::Refs;
+use std::thread::Threads;
+use vd_outside::OpenGate;
 use vd_plane::Picture;
 
 /// A picture that is to be decoded: its info, its units with the memory that they need, and the samples of its
@@ -66,6 +68,27 @@ impl CoreRender {
             refs,
         } = self;
         let outcome = prepared.decode(&info, &refs);
+        CoreRenderDone {
+            number,
+            outcome,
+            size,
+            picture: prepared.picture(),
+        }
+    }
+
+    /// Decodes the picture, and constructs its slices beside each other, as far as threads can be started.
+    pub fn run_at_once<R: Threads + Sync>(self, rt: &R) -> CoreRenderDone
+        ensures { IsDoneOf self result }
+    {
+        let CoreRender {
+            number,
+            info,
+            size,
+            mut prepared,
+            refs,
+        } = self;
+        let mut none: [OpenGate; 0] = [];
+        let outcome = prepared.decode_gated(rt, &info, &refs, &mut none);
         CoreRenderDone {
             number,
             outcome,

@@ -1,11 +1,8 @@
-use Rattle.std.proofs.Common.{ℕ, ◌-◌, ◌∙◌, subst, arith}
+use Rattle.std.proofs.Common.{arith}
 use Rattle.std.proofs.lemmas.List.{length-map}
 use Rattle.recon.specs.References.{pictures_of}
-use Rattle.vd_plane.specs.Picture.{HasSize}
-use Rattle.decoder_render.specs.Parsed.{IsUnparsed, first_header}
-use Rattle.decoder_render.specs.Submission.{bytes_of, items_of, payload_at}
-use Rattle.decoder_render.proofs.DecodeLemmas.{all_there, some_lack, unit_fails}
-use Rattle.decoder_render.proofs.MarkRanges.{all_marks}
+use Rattle.decoder_render.specs.Submission.{bytes_of, items_of}
+use Rattle.decoder_render.proofs.DecodeLemmas.{finished_outcome}
 use Rattle.decoder_render.proofs.decoding.decode_units.Goals as goal
 
 pub returns-in-Some-clause-outcome : goal.returns-in-Some-clause-outcome
@@ -20,52 +17,21 @@ returns-in-Some-clause-outcome c =
       refused = both.1;
     }
 
-pub returns-then-parsed-units-clause-outcome : goal.returns-then-parsed-units-clause-outcome
-returns-then-parsed-units-clause-outcome c =
-    let info = c.args.info.now in
-    let size = c.args.size in
-    let units = bytes_of c.args.units.now in
-    let slices = c.parse_slices-parsed.new.slices in
-    let count = c.parse_slices-parsed.result.slices in
-    let many = length-map c.args.units.now items_of in
-    let covered = c.parse_slices-parsed.ensures.covered in
-    let accepted = c.in_default.ensures.accepted units c.parse_slices-parsed.ensures.parsed in
-    let none = subst (λ (k : ℕ). IsUnparsed info size (first_header slices count) k (payload_at units count)) covered (c.parse_slices-parsed.ensures.unparsed c.if-parsed-units.true) in
-    unit_fails info size (pictures_of c.args.refs.now) units slices c.construct_slices-fault.new.marks c.construct_slices-fault.new.into count
-    (omega (arith, c.requires.tiles, c.construct_slices-fault.auto.into)) (omega (arith, c.requires.marks, c.construct_slices-fault.auto.marks)) (omega (arith, covered, c.parse_slices-parsed.ensures.inside)) accepted
-    (omega (arith, many, c.if-parsed-units.true)) none
+pub finished-requires-clause-each : goal.finished-requires-clause-each
+finished-requires-clause-each c = λ number below. c.in-None.ensures.marks number (omega (arith, below, c.parse_slices-parsed.ensures.covered))
 
-pub returns-then-missing-gt0-clause-outcome : goal.returns-then-missing-gt0-clause-outcome
-returns-then-missing-gt0-clause-outcome c =
+pub returns-in-None-clause-outcome : goal.returns-in-None-clause-outcome
+returns-in-None-clause-outcome c =
     let units = bytes_of c.args.units.now in
     let many = length-map c.args.units.now items_of in
-    let covered = c.parse_slices-parsed.ensures.covered in
-    let total = c.macroblocks.ensures in
-    let accepted = c.in_default.ensures.accepted units c.parse_slices-parsed.ensures.parsed in
-    some_lack c.args.info.now c.args.size (pictures_of c.args.refs.now) units c.parse_slices-parsed.new.slices c.construct_slices-fault.new.marks c.construct_slices-fault.new.into c.parse_slices-parsed.result.slices
-    (omega (arith, c.requires.tiles, c.construct_slices-fault.auto.into)) (omega (arith, c.requires.marks, c.construct_slices-fault.auto.marks)) (omega (arith, covered, c.parse_slices-parsed.ensures.inside)) accepted
-    (c.macroblocks.result - c.parse_slices-parsed.result.covered) (omega (arith, many, c.if-parsed-units.false, c.parse_slices-parsed.ensures.within)) (omega (arith, c.if-missing-gt0.true)) (omega (arith, total, covered))
-
-pub filter-requires-clause-marks : goal.filter-requires-clause-marks
-filter-requires-clause-marks c =
-    let covered = c.parse_slices-parsed.ensures.covered in
-    let total = c.macroblocks.ensures in
-    let inside = c.parse_slices-parsed.ensures.inside in
-    all_marks c.args.size c.construct_slices-fault.new.marks (omega (arith, c.requires.marks, c.construct_slices-fault.auto.marks))
-    (λ number below. c.in_default.ensures.marks number (omega (arith, below, total, covered, inside, c.if-missing-gt0.false)))
-
-pub returns-clause-outcome : goal.returns-clause-outcome
-returns-clause-outcome c =
-    let units = bytes_of c.args.units.now in
-    let many = length-map c.args.units.now items_of in
-    let covered = c.parse_slices-parsed.ensures.covered in
-    let total = c.macroblocks.ensures in
-    let inside = c.parse_slices-parsed.ensures.inside in
-    let accepted = c.in_default.ensures.accepted units c.parse_slices-parsed.ensures.parsed in
-    let made = c.place_tiles.new.picture in
-    let sides = c.place_tiles.ensures.size in
-    let has : HasSize made c.args.size = record { width = sides.y.width ∙ c.requires.picture.width; height = sides.y.height ∙ c.requires.picture.height } in
-    all_there c.args.info.now c.args.size (pictures_of c.args.refs.now) units c.parse_slices-parsed.new.slices c.construct_slices-fault.new.marks c.construct_slices-fault.new.into c.parse_slices-parsed.result.slices
-    (omega (arith, c.requires.tiles, c.construct_slices-fault.auto.into)) (omega (arith, c.requires.marks, c.construct_slices-fault.auto.marks)) (omega (arith, covered, inside)) accepted
-    (omega (arith, many, c.if-parsed-units.false, c.parse_slices-parsed.ensures.within)) (omega (arith, total, covered, inside, c.if-missing-gt0.false))
-    made c.filter.new.picture has c.place_tiles.ensures.samples c.filter.ensures.y c.filter.ensures.cb c.filter.ensures.cr
+    let parsed = c.parse_slices-parsed in
+    let covered = parsed.ensures.covered in
+    let accepted = c.in-None.ensures.accepted units parsed.ensures.parsed in
+    finished_outcome c.args.info.now c.args.size (pictures_of c.args.refs.now) units parsed.new.slices c.construct_slices-fault.new.marks c.construct_slices-fault.new.into parsed.result.slices
+    (omega (arith, c.requires.tiles, c.construct_slices-fault.auto.into)) (omega (arith, c.requires.marks, c.construct_slices-fault.auto.marks)) (omega (arith, covered, parsed.ensures.inside)) accepted
+    c.finished.result c.finished.new.picture parsed.result.covered covered (omega (arith, many, parsed.ensures.within))
+    (λ less. c.finished.ensures.unread (omega (arith, many, less)))
+    (λ all. c.finished.ensures.lacking (omega (arith, many, all)))
+    (λ all. c.finished.ensures.whole (omega (arith, many, all)))
+    (λ all. c.finished.ensures.decoded (omega (arith, many, all)))
+    (λ less. parsed.ensures.unparsed (omega (arith, many, less)))

@@ -1,0 +1,2 @@
+mod FewFlips
+mod Recording

@@ -1,0 +1,4 @@
+mod Joined
+pub mod OwnBytes
+mod Sorting
+mod Traces

@@ -21,7 +21,8 @@ done
 cp "$here/../../HANDLES" "$work/HANDLES"
 echo "slices_bench: decoder_render param_sets slice_header recon vd_outside vd_plane bit_io cb_types anyhow" >>"$work/crates.txt"
 cp "$here/main.rt.txt" "$work/crates/slices_bench/src/main.rt"
-rustc -O -o "$work/units" "$here/../decoder_render/units.rs.txt"
+cp "$here/../decoder_render/units.rs.txt" "$work/units.rs"
+rustc -O -o "$work/units" "$work/units.rs"
 cd "$work/crates/slices_bench"
 : >stdin
 rt run >"$work/rattle.log" 2>&1 || { tail -20 "$work/rattle.log"; exit 1; }

@@ -2,9 +2,11 @@
 use crate::line::Line;
 use crate::told::Text;
 use crate::{
-    bits, pictures, planes, predictions, renders, sets, slices, tables, transforms, types, units,
+    bits, meeting, pictures, planes, predictions, renders, sets, slices, tables, transforms, types,
+    units,
 };
 use std::alloc::{AllocError, Global};
+use std::thread::Threads;
 use vd_plane::{Picture, Plane};
 
 /// The plane and the picture that lines change.
@@ -23,7 +25,12 @@ impl Desk {
     }
 
     /// Makes a call, if the line is one.
-    pub fn answer(&mut self, alloc: Global, line: Line<'_>) -> Option<Text> {
+    pub fn answer<R: Threads + Sync>(
+        &mut self,
+        rt: &R,
+        alloc: Global,
+        line: Line<'_>,
+    ) -> Option<Text> {
         if let Some(answer) = syntax_answer(alloc, line) {
             return Some(answer);
         }
@@ -39,7 +46,10 @@ impl Desk {
         if let Some(answer) = pictures::answer(alloc, &mut self.picture, line) {
             return Some(answer);
         }
-        renders::answer(alloc, &mut self.picture, line)
+        if let Some(answer) = renders::answer(rt, alloc, &mut self.picture, line) {
+            return Some(answer);
+        }
+        meeting::answer(rt, alloc, line)
     }
 }
 

@@ -38,7 +38,10 @@
 //!     picture WIDTH HEIGHT, picture_of_size WIDTH HEIGHT, tiles Y CB CR Y CB CR, fill PLANE BYTES, put_bits FORMAT BYTES
 //!     edge LEFT RIGHT                              two macroblocks of these samples, filtered
 //!     samples PLANE, get_bits FORMAT, mix FORMAT   what is in the picture, whose planes are y, cb and cr
-//!     render WIDTH INFO BYTES                      decodes a picture of so many macroblocks: its units, and its outcome
+//!     render WIDTH INFO BYTES                      decodes a picture of so many macroblocks, and once more with its slices
+//!                                                  constructed at once: its units, and its outcome by both
+//!     meet INFO BYTES                              decodes a picture of two macroblocks, each a slice, whose gates wait
+//!                                                  for each other: whether both have met, and the outcome
 //!     turned WIDTH INFO BYTES FROM TO UNITS OUTCOMES
 //!                                                  so with each bit of some bytes turned over: how many come to this
 #![tactic(auto)]
@@ -47,6 +50,7 @@ mod bits;
 mod desk;
 mod infos;
 mod line;
+mod meeting;
 mod pictures;
 mod planes;
 mod predictions;
@@ -67,7 +71,7 @@ fn main(rt: HostRuntime) -> io::Result<()> {
     let mut desk = Desk::new(rt.alloc())?;
     for text in rt.lines(rt.alloc()) {
         let text = text?;
-        match desk.answer(rt.alloc(), Line::read(text.as_str())) {
+        match desk.answer(&rt, rt.alloc(), Line::read(text.as_str())) {
             Some(answer) => {
                 let answer = answer?;
                 println!(rt; "{text} -> {answer}")?

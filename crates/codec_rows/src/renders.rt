@@ -9,14 +9,21 @@ use decoder_render::{Outcome, Prepared};
 use recon::Refs;
 use std::alloc::{AllocError, Global};
 use std::sync::Arc;
+use std::thread::Threads;
+use vd_outside::OpenGate;
 use vd_plane::{Picture, Plane};
 
 /// Decodes a picture, if the line asks for it.
-pub fn answer(alloc: Global, picture: &mut Picture, line: Line<'_>) -> Option<Text> {
+pub fn answer<R: Threads + Sync>(
+    rt: &R,
+    alloc: Global,
+    picture: &mut Picture,
+    line: Line<'_>,
+) -> Option<Text> {
     let [first, second, third, ..] = line.words;
     match line.name {
-        "render" => Some(rendered(alloc, picture, first, second, third)),
-        "turned" => Some(turned(alloc, line.words)),
+        "render" => Some(rendered(rt, alloc, picture, first, second, third)),
+        "turned" => Some(turned(rt, alloc, line.words)),
         _ => None,
     }
 }
@@ -29,13 +36,29 @@ fn width_of(word: &str) -> u32
     number(word).max(1).min(4)
 }
 
-fn rendered(alloc: Global, picture: &mut Picture, width: &str, fields: &str, bytes: &str) -> Text {
+fn rendered<R: Threads + Sync>(
+    rt: &R,
+    alloc: Global,
+    picture: &mut Picture,
+    width: &str,
+    fields: &str,
+    bytes: &str,
+) -> Text {
     let bytes = bytes_of(alloc, bytes)?;
-    decoded(alloc, picture, width_of(width), &info_of(fields), &bytes)
+    decoded(
+        rt,
+        alloc,
+        picture,
+        width_of(width),
+        &info_of(fields),
+        &bytes,
+    )
 }
 
-// Decodes a picture of so many macroblocks in a row: how many units it has, and its outcome.
-fn decoded(
+// Decodes a picture of so many macroblocks in a row: how many units it has, and its outcome, if that is the same where
+// its slices are constructed at once.
+fn decoded<R: Threads + Sync>(
+    rt: &R,
     alloc: Global,
     picture: &mut Picture,
     width: u32,
@@ -49,20 +72,38 @@ fn decoded(
         return format!(in alloc; "not accepted");
     }
     let refs = flat_refs(alloc, width)?;
-    let mut prepared = Prepared::new(alloc, SizeMbs { width, height: 1 }, bytes)?;
+    let size = SizeMbs { width, height: 1 };
+    let mut prepared = Prepared::new(alloc, size, bytes)?;
     let units = prepared.units();
     let outcome = prepared.decode(info, &refs);
     *picture = prepared.picture();
+    let mut again = Prepared::new(alloc, size, bytes)?;
+    let at_once = again.decode_gated(rt, info, &refs, &mut [OpenGate; 4]);
+    if at_once != outcome || !is_same(picture, &again.picture()) {
+        return format!(in alloc; "otherwise at once");
+    }
     let outcome = outcome_text(alloc, outcome)?;
     format!(in alloc; "{units} units, {outcome}")
 }
 
-fn outcome_text(alloc: Global, outcome: Outcome) -> Text {
+// Whether all samples are the same.
+fn is_same(a: &Picture, b: &Picture) -> bool {
+    a.y.samples() == b.y.samples()
+        && a.cb.samples() == b.cb.samples()
+        && a.cr.samples() == b.cr.samples()
+}
+
+pub fn outcome_text(alloc: Global, outcome: Outcome) -> Text {
     match outcome {
         Outcome::Ok => format!(in alloc; "ok"),
         Outcome::Bitstream { slice } => format!(in alloc; "bitstream:{slice}"),
         Outcome::Incomplete { macroblocks } => format!(in alloc; "incomplete:{macroblocks}"),
     }
+}
+
+/// References of which none is held.
+pub fn no_refs() -> Refs {
+    refs_of(None)
 }
 
 // The picture at the first place of the references, whose samples are all 128.
@@ -71,26 +112,16 @@ fn flat_refs(alloc: Global, width: u32) -> Result<Refs, AllocError>
     requires few { width ≤ 4 }
 {
     let flat = Arc::new(alloc, flat(alloc, width)?)?;
-    Ok(Refs {
+    Ok(refs_of(Some(flat)))
+}
+
+fn refs_of(first: Option<Arc<Picture>>) -> Refs {
+    Refs {
         pictures: [
-            Some(flat),
-            None,
-            None,
-            None,
-            None,
-            None,
-            None,
-            None,
-            None,
-            None,
-            None,
-            None,
-            None,
-            None,
-            None,
-            None,
+            first, None, None, None, None, None, None, None, None, None, None, None, None, None,
+            None, None,
         ],
-    })
+    }
 }
 
 fn flat(alloc: Global, width: u32) -> Result<Picture, AllocError>
@@ -106,7 +137,7 @@ fn flat(alloc: Global, width: u32) -> Result<Picture, AllocError>
 
 // Decodes a picture once for each bit of its bytes from one place up to another, with that bit turned over: how many of
 // these have so many units, and an outcome that begins with one of these words.
-fn turned(alloc: Global, words: [&str; 8]) -> Text {
+fn turned<R: Threads + Sync>(rt: &R, alloc: Global, words: [&str; 8]) -> Text {
     let [width, fields, bytes, from, to, units, outcomes, _] = words;
     let width = width_of(width);
     let info = info_of(fields);
@@ -117,7 +148,7 @@ fn turned(alloc: Global, words: [&str; 8]) -> Text {
     for place in number(from)..number(to).min(1_000) {
         for bit in 0..8u32 {
             turn(&mut bytes, place, bit);
-            let text = decoded(alloc, &mut picture, width, &info, &bytes)?;
+            let text = decoded(rt, alloc, &mut picture, width, &info, &bytes)?;
             turn(&mut bytes, place, bit);
             all = all.saturating_add(1);
             if is_wanted(alloc, text.as_str(), units, outcomes)? {

@@ -1,0 +1,4 @@
+mod Alone
+mod Calls
+mod Others
+mod Own

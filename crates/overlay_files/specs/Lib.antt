@@ -1,5 +1,9 @@
 pub mod Blended
+pub mod Cues
 pub mod Ended
 pub mod Pixels
+pub mod ReadCues
 pub mod Reading
+pub mod ScheduleReading
+pub mod Schedules
 pub mod Texts

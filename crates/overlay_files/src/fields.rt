@@ -30,7 +30,7 @@ pub(crate) fn read_field(text: &[u8], ending: u8) -> Option<Field>
 }
 
 // The first place of the byte, or behind all where it isn't there.
-fn find(text: &[u8], byte: u8) -> usize
+pub(crate) fn find(text: &[u8], byte: u8) -> usize
     ensures within { result ≤ length text.now }
     ensures before { (k : ℕ) → k < result → slice_index text.now k ≢ byte }
     ensures there { result < length text.now → slice_index text.now result ≡ byte }
